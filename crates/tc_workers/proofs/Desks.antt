@@ -1,5 +1,5 @@
 -- A desk at work, through its calls.
-use Rattle.std.proofs.Common.{◌≡◌, ◌⊎◌, ⊎_elim, ℕ, ◌∷◌, ◌&&◌, Bool, true, false, List, [], ◌++◌, length, refl, sym, ap, ◌∙◌, subst, subst₂, append-nil, Option, Some, None}
+use Rattle.std.proofs.Common.{◌≡◌, ⊎_elim, ℕ, ◌∷◌, ◌&&◌, Bool, true, false, List, [], ◌++◌, length, refl, sym, ap, ◌∙◌, subst, subst₂, append-nil, Option, Some, None}
 use Rattle.std.proofs.lemmas.Bool.{or_parts, false_from_ne_true}
 use Rattle.std.proofs.lemmas.List.{length-set}
 use Rattle.tc_elf.specs.Shown.{Shown}
@@ -38,10 +38,9 @@ use Rattle.tc_combiner.proofs.Fitting.{fits_after}
 use Rattle.tc_combiner.proofs.Packages.{plain_good}
 use Rattle.tc_combiner.proofs.Telling.{acquire_seen, end_seen, unlock_seen}
 use Rattle.tc_combiner.proofs.Owning.{without_first}
-use Rattle.tc_workers.specs.GoOn.{MayRun, RanOne, step_of}
+use Rattle.tc_workers.specs.StepWith.{MayRun, RanOne, step_of}
 use Rattle.tc_workers.specs.Search.{MaySearch}
-use Rattle.tc_workers.specs.declared.worker.Worker.{Worker}
-use Rattle.tc_workers.specs.Worker.{HasClaimed, HasOut, HasSealed, IsAtDesk, IsFit, IsIdle, IsNext, IsSeated, IsStep, IsStill, IsUnmoved, MayAllGoBack, RunsBehind, worker_of}
+use Rattle.tc_workers.specs.Worker.{HasClaimed, HasOut, HasSealed, IsAtDesk, IsFit, IsIdle, IsNext, IsSeated, IsStep, IsStill, IsUnmoved, MayAllGoBack, RunsBehind, WorkerView, worker_of}
 use Rattle.tc_workers.proofs.Passes.{claimed_out, origin_runs, still_called, still_same, stop_shown, unmoved_looked}
 use Rattle.tc_workers.proofs.Running.{may_commit, may_settle, roomier_good, roomier_out, roomier_want}
 
@@ -86,8 +85,8 @@ length_without None s = refl
 length_without (Some t) s = length-set s t None
 
 -- a search looked for a ready thread, and no sleeper or one was taken
-pub searched : {Q S P : Type 0} (b : BenchView) (x : Worker Q S P) (o : Option ℕ) (s z : List (Option ℕ)) (q p : PassView) (r : ReadyView) → MaySearch b x → s ≡ without o z → z ≡ x.desk.sleepers → q ≡ x.desk.pass → IsSamePass q p → OnlyLooks q.knows p.knows → r.threads ≡ x.ready.threads
-    → IsStill x.desk.pass p × MaySearch {Q = Q} {S = S} {P = P} b (worker_of (record x.desk { pass = p; sleepers = s }) r)
+pub searched : (b : BenchView) (x : WorkerView) (o : Option ℕ) (s z : List (Option ℕ)) (q p : PassView) (r : ReadyView) → MaySearch b x → s ≡ without o z → z ≡ x.desk.sleepers → q ≡ x.desk.pass → IsSamePass q p → OnlyLooks q.knows p.knows → r.threads ≡ x.ready.threads
+    → IsStill x.desk.pass p × MaySearch b (worker_of (record x.desk { pass = p; sleepers = s }) r)
 searched b x o s z q p r h taken value is own looks same =
     let u : IsUnmoved x.desk.pass p = subst (λ (y : PassView). IsUnmoved y p) is (unmoved_looked q p own looks) in
     let few : length s ≡ length x.desk.sleepers = ap (λ (l : List (Option ℕ)). length l) taken ∙ (length_without o z ∙ ap (λ (l : List (Option ℕ)). length l) value) in

@@ -1,8 +1,8 @@
 -- Workers that have not begun.
-use Rattle.std.proofs.Common.{◌≡◌, ℕ, zero, suc, ◌+◌, ◌-◌, ◌<◌, List, [], ◌∷◌, ◌++◌, All, length, replicate, get_or, refl, sym, ap, ◌∙◌, subst, ⊎_elim, arith, Option, Some, None, length-append}
-use mathlib.Core.Option.{some}
-use lib.ListN.{get_elem?, length-replicate}
-use Rattle.atomic_table.proofs.Lists.{at_longer, at_last}
+use Rattle.std.proofs.Common.{◌≡◌, ℕ, zero, suc, ◌+◌, ◌-◌, List, [], ◌∷◌, ◌++◌, All, length, map, replicate, get_or, refl, sym, ap, ◌∙◌, subst, ⊎_elim, arith, Option, Some, None, length-append}
+use mathlib.Core.Option.{some, some-injective}
+use lib.ListN.{get_elem?, length-map, length-replicate}
+use Rattle.atomic_table.proofs.Lists.{at_longer, at_last, at_map}
 use Rattle.tc_elf.specs.Shown.{Shown}
 use Rattle.tc_journal.specs.Handing.{was_cut}
 use Rattle.tc_mutex_spec.proofs.ListLaws.{there}
@@ -19,10 +19,10 @@ use Rattle.std.proofs.lemmas.Option.{slice_get-get_or}
 use Rattle.tc_ready.proofs.Crews.{last_all}
 use Rattle.tc_ready.specs.ReadyView.{ReadyView, AreCrew}
 use Rattle.tc_combiner.specs.View.{BenchView, AreSeats, FitsBench, desk_of}
-use Rattle.tc_workers.specs.Worker.{IsSeated, worker_of}
+use Rattle.tc_workers.specs.Worker.{IsSeated, WorkerView, view_of, worker_of}
 use Rattle.tc_workers.specs.Crew.{AreForHire, AreHired, AreSeatsOf, IsBench, IsForHire, IsHired, AreAtWork}
 use Rattle.tc_workers.specs.declared.worker.Worker.{Worker}
-use Rattle.tc_lemmas.proofs.Lists.{at_end, at_itself}
+use Rattle.tc_lemmas.proofs.Lists.{at_end, at_itself, something_at}
 
 none_at : {A : Type 0} (n u : ℕ) → get_or {A = Option A} (replicate n None) u None ≡ None
 none_at zero u = refl
@@ -53,7 +53,7 @@ module _ (b : BenchView) (p : PassView) (ss : List SeatView) (r : ReadyView) (h 
     made = h.bench.queues.made i (get_or b.queues i q) at ∙ sym threads_are;
   }
 
-  pub new_worker : {Q S P : Type 0} (sleepers : List (Option ℕ)) (n : ℕ) → n ≡ length b.image.entries → sleepers ≡ replicate n None → IsHired {Q = Q} {S = S} {P = P} b p.knows.worker (worker_of (desk_of p ss sleepers 0 None []) r)
+  pub new_worker : (sleepers : List (Option ℕ)) (n : ℕ) → n ≡ length b.image.entries → sleepers ≡ replicate n None → IsHired b p.knows.worker ss r (worker_of (desk_of p ss sleepers 0 None []) r)
   new_worker sleepers n few asleep =
       let rooms : length sleepers ≡ threads b.hall.terms = ap (λ (l : List (Option ℕ)). length l) asleep ∙ (length-replicate n None ∙ (few ∙ sym threads_are)) in
       let count = h.bench.queues.count ∙ sym locks_are in
@@ -68,8 +68,11 @@ module _ (b : BenchView) (p : PassView) (ss : List SeatView) (r : ReadyView) (h 
         aside = λ a e. absurd (cc e);
         out = (outs p.knows, refl);
       } in
-      let seat : IsSeated b [] (desk_of p ss sleepers 0 None []) = record { fits = fits; sleepers = rooms; out = new_out b.image (length b.image.entries) (length b.image.guards) p.knows.worker p.knows h.new } in
-      record { work = record { desk = record { seat = seat; fit = tt; next = ap (λ (v : Knows). was_cut (last_by v)) h.new.now }; ready = h.ready }; worker = refl }
+      let seat : IsSeated b [] (desk_of p ss sleepers 0 None []) = record { fits = fits; sleepers = rooms; out = new_out b.image (length b.image.entries) (length b.image.guards) p.knows.worker p.knows h.new } in record {
+        work = record { desk = record { seat = seat; fit = tt; next = ap (λ (v : Knows). was_cut (last_by v)) h.new.now }; ready = h.ready };
+        pass = h.new;
+        is = ap (λ (l : List (Option ℕ)). worker_of (desk_of p ss l 0 None []) r) (asleep ∙ ap (λ (k : ℕ). replicate k None) (few ∙ sym threads_are));
+      }
 
 -- the last one that is for hire, and the others
 pub last_hired : {X : Type 0} (b : BenchView) (seen : X → List SeatView) (ps qs : List PassView) (xs ys : List X) (rs us : List ReadyView) (p : PassView) (x : X) (r : ReadyView) → AreForHire b seen ps xs rs → ps ≡ qs ++ p ∷ [] → xs ≡ ys ++ x ∷ [] → rs ≡ us ++ r ∷ []
@@ -98,23 +101,42 @@ last_hired {X = X} b seen ps qs xs ys rs us p x r h pass row ready =
       number,
     )
 
-module _ {Q S P : Type 0} where
+module _ (b : BenchView) (rows : List (List SeatView)) (ready : List ReadyView) where
   -- one worker more
-  pub hired_more : (b : BenchView) (count k number : ℕ) (ws vs : List (Worker Q S P)) (w : Worker Q S P) → AreHired b count k ws → IsHired b number w → number + k + 1 ≡ count → vs ≡ ws ++ w ∷ [] → AreHired b count (k + 1) vs
-  hired_more b count k number ws vs w old new sum is = subst (AreHired b count (k + 1)) (sym is) record {
+  pub hired_more : (k number : ℕ) (ws vs : List WorkerView) (w : WorkerView) (row : List SeatView) (r : ReadyView) → AreHired b rows ready k ws → IsHired b number row r w → get_elem? rows number ≡ some row → get_elem? ready number ≡ some r → number + k + 1 ≡ length rows → vs ≡ ws ++ w ∷ []
+      → AreHired b rows ready (k + 1) vs
+  hired_more k number ws vs w row r old new own proposed sum is = subst (AreHired b rows ready (k + 1)) (sym is) record {
     all = let l = length-append ws (w ∷ []) in let a = old.all in omega arith;
-    each = λ i other v e same. ⊎_elim
-        (λ (h : get_elem? ws i ≡ some v). old.each i other v h same)
-        (λ (h : (i ≡ length ws) × (w ≡ v)). let a = old.all in let at = h.0 in let n : number ≡ other = omega arith in subst (λ (z : ℕ × Worker Q S P). IsHired b z.0 z.1) (λ j. (n j, h.1 j)) new)
+    each = λ i other v s q e same of at. ⊎_elim
+        (λ (h : get_elem? ws i ≡ some v). old.each i other v s q h same of at)
+        (λ (h : (i ≡ length ws) × (w ≡ v)).
+        let a = old.all in
+        let place = h.0 in
+        let n : number ≡ other = omega arith in
+        let its_row : row ≡ s = some-injective row s (sym own ∙ (ap (get_elem? rows) n ∙ of)) in
+        let its_ready : r ≡ q = some-injective r q (sym proposed ∙ (ap (get_elem? ready) n ∙ at)) in
+        subst (λ (z : ℕ × List SeatView × ReadyView × WorkerView). IsHired b z.0 z.1 z.2 z.3) (λ j. (n j, its_row j, its_ready j, h.1 j)) new)
         (at_end ws w v i e);
   }
 
-  pub none_hired : (b : BenchView) (count : ℕ) (ws : List (Worker Q S P)) → ws ≡ [] → AreHired b count 0 ws
-  none_hired b count ws is = subst (AreHired b count 0) (sym is) record { all = refl; each = λ i number w e. let low = (there [] i w w e).0 in absurd (omega arith) }
+  pub none_hired : (ws : List WorkerView) → ws ≡ [] → AreHired b rows ready 0 ws
+  none_hired ws is = subst (AreHired b rows ready 0) (sym is) record { all = refl; each = λ i number w s q e. let low = (there [] i w w e).0 in absurd (omega arith) }
+
+  -- the worker with this number
+  pub hired_of : (ws : List WorkerView) → length ready ≡ length rows → AreHired b rows ready (length rows) ws → (i number : ℕ) (w : WorkerView) → get_elem? ws i ≡ some w → number + i + 1 ≡ length rows → (row : List SeatView) × (r : ReadyView) × IsHired b number row r w
+  hired_of ws same hired i number w e sum =
+      let row = something_at rows number (omega arith) in
+      let r = something_at ready number (omega arith) in
+      (row.0, r.0, hired.each i number w row.0 r.0 e sum row.1 r.1)
 
   -- all of them are at work
-  pub at_work : (b : BenchView) (n : ℕ) (ws : List (Worker Q S P)) → AreHired b n n ws → AreAtWork b ws
-  at_work b n ws all i w e = let h = there ws i w w e in let low = h.0 in let a = all.all in (all.each i (n - 1 - i) w e (omega arith)).work
+  pub at_work : {Q S P : Type 0} (n : ℕ) (ws : List (Worker Q S P)) → length ready ≡ length rows → length rows ≡ n → AreHired b rows ready n (map view_of ws) → AreAtWork b ws
+  at_work n ws same count all i w e =
+      let h = there ws i w w e in
+      let low = h.0 in
+      let many = length-map ws view_of in
+      let each = all.all in
+      (hired_of (map view_of ws) same (subst (λ (k : ℕ). AreHired b rows ready k (map view_of ws)) (sym count) all) i (n - 1 - i) (view_of w) (at_map view_of ws i w e) (omega arith)).2.work
 
 -- all of a hall are for hire, with the rows and the ready threads of as many workers
 pub for_hire : {X : Type 0} (b : BenchView) (seen : X → List SeatView) (workers n room : ℕ) (ps : List PassView) (xs : List X) (rs : List ReadyView) → IsBench b → AreDealt b.image (length b.image.entries) (length b.image.guards) workers b.hall.table ps

@@ -1,5 +1,7 @@
 -- The passes of workers that have ended, joined into one, and the whole run.
-use Rattle.std.proofs.Common.{◌≡◌, ◌⊎◌, ℕ, suc, ◌-◌, Bool, true, false, ◌||◌, List, [], ◌∷◌, ◌++◌, length, refl, sym, ap, ◌∙◌, subst, ⊎_elim, inl, inr, arith, None, get_or, map}
+use Rattle.std.proofs.Common.{◌≡◌, ◌⊎◌, ℕ, suc, ◌-◌, Bool, true, false, ◌&&◌, List, [], ◌∷◌, ◌++◌, length, refl, sym, ap, ◌∙◌, subst, ⊎_elim, inl, inr, arith, None, get_or, map, Result, Ok, Err}
+use Rattle.std.specs.Prelude.{IfOk, MatchResult}
+use Rattle.std.proofs.lemmas.List.{map-append}
 use Rattle.tc_hall.proofs.Listing.{at_append}
 use mathlib.Core.Option.{some}
 use lib.ListN.{get_elem?, length-map}
@@ -11,18 +13,24 @@ use Rattle.tc_mutex_spec.proofs.ListLaws.{there}
 use Rattle.tc_segment.specs.View.{kept}
 use Rattle.tc_context.specs.View.{bare}
 use Rattle.tc_law.specs.Lawful.{Lawful}
-use Rattle.tc_hall.specs.declared.board.PassCall.TheVariants.{Look}
+use Rattle.tc_hall.specs.declared.board.PassCall.TheVariants.{Look, Stop, Stopped}
 use Rattle.tc_hall.specs.declared.board.Knows.{Knows}
 use Rattle.tc_hall.specs.Made.{IsHallOf}
 use Rattle.tc_hall.specs.PassView.{ClosedView, HallView, PassView}
 use Rattle.tc_hall.specs.Rule.{threads}
-use Rattle.tc_hall.specs.Steps.{HasSeenAll, IsEnd, IsFree, IsSamePass, merged}
+use Rattle.tc_hall.specs.Steps.{HasSeenAll, HasStop, IsEnd, IsFree, IsSamePass, made, merged, seen}
+use Rattle.tc_queue.specs.Lines.{SeatView}
+use Rattle.tc_ready.specs.ReadyView.{ReadyView}
 use Rattle.tc_combiner.specs.View.{BenchView}
-use Rattle.tc_workers.specs.Worker.{IsAtWork}
-use Rattle.tc_workers.specs.Turns.{IsFinished}
-use Rattle.tc_workers.specs.Crew.{AreAtWork, AreHired, Counts, HasRun, HaveFinished}
+use Rattle.tc_combiner.specs.Walks.{HaveNoStop}
+use Rattle.tc_workers.specs.Worker.{IsAtWork, WorkerView, view_of}
+use Rattle.tc_workers.specs.Turns.{HasWorked, IsFinished}
+use Rattle.tc_workers.specs.Crew.{AreAtWork, Counts, CrewRan, HasRun, HaveFinished, HaveWorked, more, one}
 use Rattle.tc_workers.specs.declared.worker.Worker.{Worker}
-use Rattle.tc_workers.specs.Run.{IsWholeRun}
+use Rattle.tc_workers.specs.Run.{HaveRoom, IsCrewsRun, IsWholeRun}
+use Rattle.tc_workers.proofs.Hiring.{hired_of}
+use Rattle.tc_workers.proofs.Passes.{stop_later}
+use Rattle.tc_workers.proofs.Unstopped.{none_stopped}
 use Rattle.tc_lemmas.proofs.Lists.{at_end, at_itself, something_at}
 
 -- a worker that counts in the joined pass, counts in both
@@ -38,52 +46,90 @@ seen_first n v w all t lt = let h = all t lt in (h.0, at_longer v.calls w.calls 
 seen_joined : (n : ℕ) (v w : Knows) → HasSeenAll n w → HasSeenAll n (merged v w)
 seen_joined n v w all t lt = let h = all t lt in at_append v.calls w.calls h.0 (Look t 2) h.1
 
-either : (a c : Bool) → (a || c) ≡ true → (a ≡ true) ⊎ (c ≡ true)
-either true c e = inl refl
-either false c e = inr e
+stop_joined : (v w : Knows) → HasStop w → HasStop (merged v w)
+stop_joined v w (made i h) = let at = at_append v.calls w.calls i Stop h in made at.0 at.1
+stop_joined v w (seen i h) = let at = at_append v.calls w.calls i (Stopped 1) h in seen at.0 at.1
+
+both_true : (a c : Bool) → (a && c) ≡ true → a ≡ true
+both_true true c e = refl
+both_true false c e = absurd (cc e)
+
+one_false : (a c : Bool) → (a && c) ≡ false → (a ≡ false) ⊎ (c ≡ false)
+one_false true c e = inr e
+one_false false c e = inl refl
+
+none_left : {A : Type 0} (xs : List A) → length xs ≡ 0 → xs ≡ []
+none_left [] e = refl
+none_left (x ∷ xs) e = absurd (omega (arith, e))
 
 module _ {Q S P : Type 0} where
   -- the last worker, and the others
-  pub at_work_last : (b : BenchView) (ws vs : List (Worker Q S P)) (w : Worker Q S P) → AreAtWork b vs → vs ≡ ws ++ w ∷ [] → IsAtWork b None w × AreAtWork b ws
+  pub at_work_last : (b : BenchView) (ws vs : List (Worker Q S P)) (w : Worker Q S P) → AreAtWork b vs → vs ≡ ws ++ w ∷ [] → IsAtWork b None (view_of w) × AreAtWork b ws
   at_work_last b ws vs w all is = (
     all (length ws) w (ap (λ (l : List (Worker Q S P)). get_elem? l (length ws)) is ∙ at_last ws w (length ws) refl),
     λ i v e. all i v (ap (λ (l : List (Worker Q S P)). get_elem? l i) is ∙ at_longer ws (w ∷ []) i v e),
   )
 
+  -- as contracts see them
+  views_last : (ws vs : List (Worker Q S P)) (w : Worker Q S P) → vs ≡ ws ++ w ∷ [] → map view_of vs ≡ map view_of ws ++ view_of w ∷ []
+  views_last ws vs w is = ap (map view_of) is ∙ map-append view_of ws (w ∷ [])
+
   -- a single worker
-  pub one_finished : (b : BenchView) (w : Worker Q S P) (ws vs : List (Worker Q S P)) (p : PassView) (a : Bool) → IsAtWork b None w → IsFinished b.hall.terms w.desk.pass p a → vs ≡ ws ++ w ∷ [] → length ws ≡ 0 → HaveFinished b vs p a
-  one_finished b w ws vs p a work end is none = record {
+  pub one_finished : (b : BenchView) (w : Worker Q S P) (ws vs : List (Worker Q S P)) (p : PassView) (a : Bool) → IsAtWork b None (view_of w) → IsFinished b.hall.terms w.desk.pass p a → HasWorked b (view_of w) p a → vs ≡ ws ++ w ∷ [] → length ws ≡ 0 → HaveFinished b (map view_of vs) p a
+  one_finished b w ws vs p a work end worked is none = subst (λ (l : List (Worker Q S P)). HaveFinished b (map view_of l) p a) (sym (is ∙ ap (λ (l : List (Worker Q S P)). l ++ w ∷ []) (none_left ws none))) record {
     all = λ i v e. ⊎_elim
-        (λ (h : get_elem? ws i ≡ some v). let low = (there ws i v v h).0 in absurd (omega arith))
-        (λ (h : (i ≡ length ws) × (w ≡ v)). inl (sym (ap (λ (x : Worker Q S P). x.desk.pass.knows.worker) h.1) ∙ sym end.still.worker))
-        (at_end ws w v i (sym (ap (λ (l : List (Worker Q S P)). get_elem? l i) is) ∙ e));
-    end = record { own = end.still.own.0 ∙ work.desk.seat.fits.own; free = end.free; done = end.done };
+        (λ (h : get_elem? [] i ≡ some v). let low = (there [] i v v h).0 in absurd (omega arith))
+        (λ (h : (i ≡ 0) × (view_of w ≡ v)). inl (sym (ap (λ (x : WorkerView). x.desk.pass.knows.worker) h.1) ∙ sym end.still.worker))
+        (at_end [] (view_of w) v i e);
+    worked = one (view_of w) p a worked;
+    end = record { own = end.still.own.0 ∙ work.desk.seat.fits.own; free = end.free; done = end.done; stopped = end.stopped };
   }
 
   -- a worker and others before it in the list, where their pass q was joined into its pass p, which then is r
-  pub all_finished : (b : BenchView) (w : Worker Q S P) (ws vs : List (Worker Q S P)) (p q r : PassView) (a c : Bool) → IsAtWork b None w → IsFinished b.hall.terms w.desk.pass p a → HaveFinished b ws q c → vs ≡ ws ++ w ∷ [] → IsSamePass p r → r.knows ≡ merged p.knows q.knows → HaveFinished b vs r (a || c)
-  all_finished b w ws vs p q r a c work end others is same now = record {
-    all = λ i v e. subst (λ (k : Knows). Counts k v.desk.pass.knows.worker) (sym now) (⊎_elim
-        (λ (h : get_elem? ws i ≡ some v). counts_joined p.knows q.knows v.desk.pass.knows.worker (others.all i v h))
-        (λ (h : (i ≡ length ws) × (w ≡ v)). inl (sym (ap (λ (x : Worker Q S P). x.desk.pass.knows.worker) h.1) ∙ sym end.still.worker))
-        (at_end ws w v i (sym (ap (λ (l : List (Worker Q S P)). get_elem? l i) is) ∙ e)));
-    end = record {
-      own = same.0 ∙ (end.still.own.0 ∙ work.desk.seat.fits.own);
-      free = subst IsFree (sym now) record { packages = end.free.packages; locks = end.free.locks };
-      done = λ e. subst (HasSeenAll (threads b.hall.terms)) (sym now) (⊎_elim
-          (λ (h : a ≡ true). seen_first (threads b.hall.terms) p.knows q.knows (end.done h))
-          (λ (h : c ≡ true). seen_joined (threads b.hall.terms) p.knows q.knows (others.end.done h))
-          (either a c e));
-    };
-  }
+  pub all_finished : (b : BenchView) (w : Worker Q S P) (ws vs : List (Worker Q S P)) (p q r : PassView) (a c : Bool) → IsAtWork b None (view_of w) → IsFinished b.hall.terms w.desk.pass p a × HasWorked b (view_of w) p a → HaveFinished b (map view_of ws) q c → vs ≡ ws ++ w ∷ [] → IsSamePass p r → r.knows ≡ merged p.knows q.knows
+      → HaveFinished b (map view_of vs) r (a && c)
+  all_finished b w ws vs p q r a c work own others is same now =
+      let end = own.0 in
+      let before = map view_of ws in
+      subst (λ (l : List WorkerView). HaveFinished b l r (a && c)) (sym (views_last ws vs w is)) record {
+        all = λ i v e. subst (λ (k : Knows). Counts k v.desk.pass.knows.worker) (sym now) (⊎_elim
+            (λ (h : get_elem? before i ≡ some v). counts_joined p.knows q.knows v.desk.pass.knows.worker (others.all i v h))
+            (λ (h : (i ≡ length before) × (view_of w ≡ v)). inl (sym (ap (λ (x : WorkerView). x.desk.pass.knows.worker) h.1) ∙ sym end.still.worker))
+            (at_end before (view_of w) v i e));
+        worked = subst (λ (k : Knows). HaveWorked b (before ++ view_of w ∷ []) k (a && c)) (sym now) (more before q.knows c (view_of w) p a others.worked own.1);
+        end = record {
+          own = same.0 ∙ (end.still.own.0 ∙ work.desk.seat.fits.own);
+          free = subst IsFree (sym now) record { packages = end.free.packages; locks = end.free.locks };
+          done = λ e. subst (HasSeenAll (threads b.hall.terms)) (sym now) (seen_first (threads b.hall.terms) p.knows q.knows (end.done (both_true a c e)));
+          stopped = λ e. subst HasStop (sym now) (⊎_elim
+              (λ (h : a ≡ false). stop_later p.knows (merged p.knows q.knows) q.knows.calls refl (end.stopped h))
+              (λ (h : c ≡ false). stop_joined p.knows q.knows (others.end.stopped h))
+              (one_false a c e));
+        };
+      }
 
-  -- so all workers of the run have ended
-  pub has_run : (b : BenchView) (n : ℕ) (ws : List (Worker Q S P)) (p : PassView) (a : Bool) → AreHired b n n ws → HaveFinished b ws p a → HasRun b.hall n p a
-  has_run b n ws p a hired end = record {
-    all = λ u lt. let l = hired.all in let at = something_at ws (n - 1 - u) (omega arith) in
-        subst (Counts p.knows) (hired.each (n - 1 - u) u at.0 at.1 (omega arith)).worker (end.all (n - 1 - u) at.0 at.1);
-    end = end.end;
-  }
+-- so all workers of the run have ended
+pub has_run : (b : BenchView) (rows : List (List SeatView)) (ready : List ReadyView) (p : PassView) (a : Bool) → CrewRan b rows ready p a → HasRun b.hall (length rows) p a
+has_run b rows ready p a ran = record {
+  all = λ u lt. let all = ran.hired.all in
+      let at = something_at ran.crew (length rows - 1 - u) (omega arith) in
+      let of = hired_of b rows ready ran.crew ran.members ran.hired (length rows - 1 - u) u at.0 at.1 (omega arith) in
+      subst (Counts p.knows) (ap (λ (v : Knows). v.worker) of.2.pass.now) (ran.finished.all (length rows - 1 - u) at.0 at.1);
+  end = ran.finished.end;
+}
+
+-- where each of them saw all threads done, none made a stop
+unstopped : (b : BenchView) (rows : List (List SeatView)) (ready : List ReadyView) (p : PassView) (a : Bool) → CrewRan b rows ready p a → a ≡ true → HaveNoStop p.knows.calls
+unstopped b rows ready p a ran all = none_stopped b ran.crew p.knows a ran.finished.worked all (λ i w e.
+    let low = (there ran.crew i w w e).0 in
+    let count = ran.hired.all in
+    ap (λ (v : Knows). v.calls) (hired_of b rows ready ran.crew ran.members ran.hired i (length rows - 1 - i) w e (omega arith)).2.pass.now)
+
+-- where the hall was closed, each worker saw all threads done
+pub closed_so : {E : Type 0} (b : BenchView) (x : Shown) (o : Options) (rows : List (List SeatView)) (ready : List ReadyView) (p : PassView) (a : Bool) (r : Result ClosedView E) → IsHallOf x o.fuel o.workers o.limit b.hall → HaveRoom x o ready → CrewRan b rows ready p a
+    → IfOk r (λ c. IsEnd b.hall.terms p.knows c.packages c.locks) → MatchResult r (λ c. a ≡ true) (λ e. a ≡ false) → IfOk r (IsCrewsRun x o rows)
+closed_so b x o rows ready p a (Ok c) of room ran end done = record { bench = b; hall = of; ready = ready; room = room; pass = p; ran = subst (CrewRan b rows ready p) done ran; unstopped = unstopped b rows ready p a ran done; end = end }
+closed_so b x o rows ready p a (Err e) of room ran end done = tt
 
 -- from the end of the hall to the whole run
 pub whole : (x : Shown) (o : Options) (h : HallView) (v : Knows) (c : ClosedView) → IsHallOf x o.fuel o.workers o.limit h → IsEnd h.terms v c.packages c.locks → IsWholeRun x o c

@@ -11,7 +11,7 @@ use Rattle.tc_hall.specs.Steps.{Gave, HasStop, IsSamePass, MayPut, after_stop, p
 use Rattle.tc_combiner.specs.View.{BenchView, DeskView}
 use Rattle.tc_combiner.specs.Walks.{Owns, packed}
 use Rattle.tc_combiner.proofs.Acting.{told_then}
-use Rattle.tc_workers.specs.GoOn.{GivesUp}
+use Rattle.tc_workers.specs.StepWith.{GivesUp}
 use Rattle.tc_workers.specs.Worker.{DidLeave, DidPutBack, IsAtDesk, IsSeated, IsStill, IsUnmoved, LookedAtStop, MayAllGoBack, MayLeave, put_back}
 use Rattle.tc_workers.proofs.Desks.{aside_seat, at_still, fit_back, out_alone, seat_still, seated, still_holds, with_pass}
 use Rattle.tc_workers.proofs.Passes.{no_call, one_call, still_called, still_same, still_then, stop_later, stop_shown, stop_told, unmoved_call}
@@ -50,6 +50,7 @@ has_left b hand o d e g f did given rest last =
       told = told_then (put_back hand) (put_back d.aside) d.pass.knows e.pass.knows f.pass.knows did.told back.told;
       left = record { aside = none; out = out_alone f.pass.knows [] f.aside none back.may.seat.out };
       stop = back.may.stop;
+      rest = back.rest ∙ ap (λ (z : DeskView). record z { pass = f.pass; aside = None }) did.rest;
     }
 
 -- ---- where a stop was seen
@@ -74,6 +75,13 @@ pub left_told : (hand : Option PackageView) (d e f : DeskView) (saw : Bool) → 
 left_told hand d e f saw l seen did = told_then (Seen 1 ∷ []) (put_back hand ++ put_back d.aside) d.pass.knows e.pass.knows f.pass.knows (saw_told d e saw l seen)
     (subst (λ (o : Option PackageView). Called (put_back hand ++ put_back o) e.pass.knows f.pass.knows) (ap (λ (z : DeskView). z.aside) l.rest) did.told)
 
+pub left_rest : (hand : Option PackageView) (d e f : DeskView) (saw : Bool) → LookedAtStop saw d e → DidLeave hand e f → f ≡ record d { pass = f.pass; aside = None }
+left_rest hand d e f saw l did = did.rest ∙ ap (λ (z : DeskView). record z { pass = f.pass; aside = None }) l.rest
+
+-- nothing was set aside before
+pub left_alone : (d f : DeskView) → d.aside ≡ None → f ≡ record d { pass = f.pass; aside = None } → f ≡ record d { pass = f.pass }
+left_alone d f free is = is ∙ ap (λ (o : Option PackageView). record d { pass = f.pass; aside = o }) (sym free)
+
 pub left_still : (hand : Option PackageView) (d e f : DeskView) (saw : Bool) → LookedAtStop saw d e → DidLeave hand e f → IsStill d.pass f.pass
 left_still hand d e f saw l did = still_then d.pass e.pass f.pass (unmoved_call d.pass e.pass (Seen l.saw.word) l.own l.saw.now).still did.still
 
@@ -95,4 +103,5 @@ module _ (b : BenchView) (d : DeskView) (o p : PassView) (q : PackageView) (is :
     still = still_then d.pass p e.pass unmoved.still did.still;
     left = did.left;
     told = told_then (Stop ∷ []) (put_back (Some q) ++ put_back d.aside) d.pass.knows p.knows e.pass.knows made did.told;
+    rest = did.rest;
   }

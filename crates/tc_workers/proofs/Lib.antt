@@ -7,3 +7,4 @@ pub mod Crossing
 pub mod Hiring
 pub mod Joining
 pub mod Rows
+pub mod Unstopped

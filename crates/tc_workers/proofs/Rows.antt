@@ -46,6 +46,17 @@ pub record Dealing {X S : Type 0} (items : X → List S) (rows : List X) (seats 
 pub record AreFirst {S : Type 0} (some_of all : List S) : Type 0 where
   pub each : (i : ℕ) (s : S) → get_elem? some_of i ≡ some s → get_elem? all i ≡ some s
 
+pub all_first : {S : Type 0} (all : List S) → AreFirst all all
+all_first all = record { each = λ i s e. e }
+
+module _ {S : Type 0} (all firsts rest : List S) (s : S) (of : AreFirst firsts all) (split : firsts ≡ rest ++ s ∷ []) where
+  pub firsts_less : AreFirst rest all
+  firsts_less = record { each = λ i t e. of.each i t (ap (λ (l : List S). get_elem? l i) split ∙ at_longer rest (s ∷ []) i t e) }
+
+  -- the last of them stands in the whole list at its place
+  pub last_first : get_elem? all (length rest) ≡ some s
+  last_first = of.each (length rest) s (ap (λ (l : List S). get_elem? l (length rest)) split ∙ at_last rest s (length rest) refl)
+
 module _ {X S : Type 0} (items : X → List S) (rows : List X) (seats : List S) where
   pub dealt_none : (n : ℕ) → length seats ≤ n → length seats ≡ length rows → Dealing items rows seats n rows
   dealt_none n past same = record {
@@ -72,13 +83,10 @@ module _ {X S : Type 0} (items : X → List S) (rows : List X) (seats : List S) 
   }
     where
       here : get_elem? seats (length rest) ≡ some s
-      here = firsts.each (length rest) s (ap (λ (l : List S). get_elem? l (length rest)) split ∙ at_last rest s (length rest) refl)
+      here = last_first seats all rest s firsts split
 
       was : get_elem? rows (length rest) ≡ some row
       was = old.left (length rest) row (omega arith) (at_itself now (length rest) d lt ∙ ap some at)
-
-  pub firsts_less : (rest all : List S) (s : S) → AreFirst all seats → all ≡ rest ++ s ∷ [] → AreFirst rest seats
-  firsts_less rest all s firsts split = record { each = λ i t e. firsts.each i t (ap (λ (l : List S). get_elem? l i) split ∙ at_longer rest (s ∷ []) i t e) }
 
   pub dealt_all : (now : List X) → Dealing items rows seats 0 now → AreDealtOut items rows seats now
   dealt_all now all = record { count = all.count; each = λ w row new s e f g. all.more w row new s (omega arith) e f g }

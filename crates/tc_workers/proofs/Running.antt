@@ -1,7 +1,6 @@
 -- Packages that get room, run a block and are sealed, and what is out meanwhile.
-use Rattle.std.proofs.Common.{◌≡◌, ◌≢◌, ◌⊎◌, ⊎_elim, inl, inr, ℕ, ◌==◌, ◌||◌, Bool, true, false, if◌then◌else◌, List, [], ◌∷◌, get_or, refl, sym, ap, ◌∙◌, subst, arith, Option, Some, None}
+use Rattle.std.proofs.Common.{◌≡◌, ◌⊎◌, ⊎_elim, inl, inr, ℕ, ◌==◌, ◌||◌, Bool, true, false, if◌then◌else◌, List, [], ◌∷◌, get_or, refl, sym, ap, ◌∙◌, subst, arith, Option, Some, None}
 use Rattle.std.specs.Option.{option_map}
-use Rattle.std.proofs.lemmas.Bool.Decides.{eqb_tells}
 use Rattle.tc_mutex_spec.proofs.Going.{in_block}
 use Rattle.tc_isa.specs.Sets.{has}
 use Rattle.tc_elf.specs.Shown.{Shown}
@@ -9,8 +8,6 @@ use Rattle.tc_journal.specs.Batch.{last_of}
 use Rattle.tc_journal.specs.Handing.{AreTogether}
 use Rattle.tc_journal.specs.declared.block.Block.{Block}
 use Rattle.tc_journal.specs.declared.block.End.{End}
-use Rattle.tc_turn.specs.declared.status.Status.{Status}
-use Rattle.tc_turn.specs.declared.status.Status.TheVariants.{Running, Exited, Faulted, SpentFuel}
 use Rattle.tc_turn.specs.Turn.{is_running, next_lock, thread_of}
 use Rattle.tc_mutex_spec.specs.Blocks.{locks_of_block}
 use Rattle.tc_segment.specs.View.{LockView, kept, sealed_block}

@@ -19,13 +19,12 @@ use Rattle.tc_combiner.specs.declared.settled.Settled.TheVariants.{Stopped as Wa
 use Rattle.tc_combiner.specs.Settling.{TellsReady}
 use Rattle.tc_combiner.specs.View.{BenchView, DeskView}
 use Rattle.tc_combiner.specs.Walks.{TakesDown}
-use Rattle.tc_workers.specs.GoOn.{CanHave, GoesOn, HasOffered}
+use Rattle.tc_workers.specs.StepWith.{CanHave, HasOffered, StepsWith}
 use Rattle.tc_workers.specs.Search.{Finds, IsSearch, IsTakenUp, IsTry}
 use Rattle.tc_workers.specs.Turns.{HasBegun, HasWorked, IsFinished, MakesStep, Proceeds, Reaches, Steps, TakesStep, last_step, more, proceeds}
-use Rattle.tc_workers.specs.Worker.{HasLeft, IsAtDesk, IsAtWork, IsStill, LookedAtStop, WorkerSteps, worker_of}
+use Rattle.tc_workers.specs.Worker.{HasLeft, IsAtDesk, IsAtWork, IsStill, LookedAtStop, WorkerSteps, WorkerView, worker_of}
 use Rattle.tc_workers.specs.declared.step.Step.{Step}
 use Rattle.tc_workers.specs.declared.step.Step.TheVariants.{On, AllDone, Stopped}
-use Rattle.tc_workers.specs.declared.worker.Worker.{Worker}
 use Rattle.tc_workers.proofs.Leaving.{at_looked}
 use Rattle.tc_workers.proofs.Passes.{still_then}
 use Rattle.tc_workers.proofs.Running.{is_free}
@@ -38,19 +37,19 @@ taken_up from t v d e q AllDone g h = absurd h
 taken_up from t v d e q Stopped g h = (q, d.pass.knows, g, h)
 
 -- nothing was set aside
-pub found_alone : {Q S P : Type 0} (b : BenchView) (x z : Worker Q S P) (e : DeskView) (s : Step) → x.desk.aside ≡ None → e ≡ record x.desk { aside = None } → IsSearch (threads b.hall.terms) (worker_of e x.ready) z s → Finds b x.desk.aside x z s
+pub found_alone : (b : BenchView) (x z : WorkerView) (e : DeskView) (s : Step) → x.desk.aside ≡ None → e ≡ record x.desk { aside = None } → IsSearch (threads b.hall.terms) (worker_of e x.ready) z s → Finds b x.desk.aside x z s
 found_alone b x z e s alone rest h = subst (λ (o : Option PackageView). Finds b o x z s) (sym alone)
     (subst (λ (o : Option PackageView). IsSearch (threads b.hall.terms) (worker_of (record x.desk { aside = o }) x.ready) z s) (sym alone) (subst (λ (d : DeskView). IsSearch (threads b.hall.terms) (worker_of d x.ready) z s) rest h))
 
 -- it goes on with what it has in hand, since it saw no stop
-pub at_work_looked : {Q S P : Type 0} (b : BenchView) (hand h : Option PackageView) (x : Worker Q S P) (e : DeskView) (saw : Bool) → IsAtWork b hand x → hand ≡ h → LookedAtStop saw x.desk e → IsAtWork {Q = Q} {S = S} {P = P} b h (worker_of e x.ready)
+pub at_work_looked : (b : BenchView) (hand h : Option PackageView) (x : WorkerView) (e : DeskView) (saw : Bool) → IsAtWork b hand x → hand ≡ h → LookedAtStop saw x.desk e → IsAtWork b h (worker_of e x.ready)
 at_work_looked b hand h x e saw work is l = record { desk = at_looked b h x.desk e saw (subst (λ (o : Option PackageView). IsAtDesk b o x.desk) is work.desk) l; ready = work.ready }
 
-pub went_on : {Q S P : Type 0} (b : BenchView) (hand h : Option PackageView) (x z : Worker Q S P) (e : DeskView) (saw : Bool) (s : Step) → LookedAtStop saw x.desk e → saw ≡ false → hand ≡ h → Proceeds b h (worker_of e x.ready) z s → TakesStep b hand x z s
+pub went_on : (b : BenchView) (hand h : Option PackageView) (x z : WorkerView) (e : DeskView) (saw : Bool) (s : Step) → LookedAtStop saw x.desk e → saw ≡ false → hand ≡ h → Proceeds b h (worker_of e x.ready) z s → TakesStep b hand x z s
 went_on b hand h x z e saw s l went is go = subst (λ (o : Option PackageView). TakesStep b o x z s) (sym is) (proceeds (worker_of e x.ready) (record { desk = subst (λ (a : Bool). LookedAtStop a x.desk e) went l; ready = refl }) go)
 
 -- a step that was begun, and what it came to
-pub went_through : {Q S P : Type 0} (b : BenchView) (hand : Option PackageView) (q : PackageView) (x y z : Worker Q S P) (s : Step) → WorkerSteps b x y (On (Some q)) → HasBegun hand q x y → WorkerSteps b y z s → GoesOn b.image q y z s → WorkerSteps b x z s × TakesStep b hand x z s
+pub went_through : (b : BenchView) (hand : Option PackageView) (q : PackageView) (x y z : WorkerView) (s : Step) → WorkerSteps b x y (On (Some q)) → HasBegun hand q x y → WorkerSteps b y z s → StepsWith b.image q y z s → WorkerSteps b x z s × TakesStep b hand x z s
 went_through b hand q x y z s did begun steps goes = (
   record {
     desk = record { still = still_then x.desk.pass y.desk.pass z.desk.pass did.desk.still steps.desk.still; after = steps.desk.after };
@@ -60,23 +59,23 @@ went_through b hand q x y z s did begun steps goes = (
 )
 
 -- steps, and one more where it was made
-reached : {Q S P : Type 0} (b : BenchView) (w : Worker Q S P) (hand : Option PackageView) (x : Worker Q S P) (at : Option PackageView) (y : Worker Q S P) → Steps b w hand x → Reaches b hand x at y → Steps b w at y
-reached {Q} {S} {P} b w hand x at y steps reaches = go reaches.first
+reached : (b : BenchView) (w : WorkerView) (hand : Option PackageView) (x : WorkerView) (at : Option PackageView) (y : WorkerView) → Steps b w hand x → Reaches b hand x at y → Steps b w at y
+reached b w hand x at y steps reaches = go reaches.first
   where
     go : ((at ≡ hand) × (y ≡ x)) ⊎ TakesStep b hand x y (On at) → Steps b w at y
-    go (inl same) = subst (λ (o : Option PackageView). Steps b w o y) (sym same.0) (subst (λ (v : Worker Q S P). Steps b w hand v) (sym same.1) steps)
+    go (inl same) = subst (λ (o : Option PackageView). Steps b w o y) (sym same.0) (subst (λ (v : WorkerView). Steps b w hand v) (sym same.1) steps)
     go (inr took) = more hand at x y steps took
 
 -- steps that came to this one
-pub record CameTo {Q S P : Type 0} (b : BenchView) (w z : Worker Q S P) (r : Step) : Type 0 where
+pub record CameTo (b : BenchView) (w z : WorkerView) (r : Step) : Type 0 where
   pub at : Option PackageView
-  pub y : Worker Q S P
+  pub y : WorkerView
   pub still : IsStill w.desk.pass y.desk.pass
   pub ready : y.ready.threads ≡ threads b.hall.terms
   pub steps : Steps b w at y
   pub did : WorkerSteps b y z r × TakesStep b at y z r
 
-pub came_to : {Q S P : Type 0} (b : BenchView) (w x z : Worker Q S P) (hand : Option PackageView) (r : Step) → IsStill w.desk.pass x.desk.pass → x.ready.threads ≡ threads b.hall.terms → Steps b w hand x → MakesStep b hand x z r → CameTo b w z r
+pub came_to : (b : BenchView) (w x z : WorkerView) (hand : Option PackageView) (r : Step) → IsStill w.desk.pass x.desk.pass → x.ready.threads ≡ threads b.hall.terms → Steps b w hand x → MakesStep b hand x z r → CameTo b w z r
 came_to b w x z hand r still ready steps made = record {
   at = made.at;
   y = made.y;
@@ -90,9 +89,16 @@ finished : (k : HallTerms) (p q : PassView) (e : DeskView) (a : Bool) → IsStil
 finished k p q e a still left done stopped is = subst (λ (x : PassView). IsFinished k p x a) (sym is) record { still = still; free = is_free e.pass.knows left.out; done = done; stopped = stopped }
 
 -- after a last step
-pub ended : {Q S P : Type 0} (b : BenchView) (x y z : Worker Q S P) (hand : Option PackageView) (p : PassView) (a : Bool) → IsStill x.desk.pass y.desk.pass → Steps b x hand y → WorkerSteps b y z (last_step a) → TakesStep b hand y z (last_step a) → p ≡ z.desk.pass → IsFinished b.hall.terms x.desk.pass p a × HasWorked b x p a
+ended : (b : BenchView) (x y z : WorkerView) (hand : Option PackageView) (p : PassView) (a : Bool) → IsStill x.desk.pass y.desk.pass → Steps b x hand y → WorkerSteps b y z (last_step a) → TakesStep b hand y z (last_step a) → p ≡ z.desk.pass → IsFinished b.hall.terms x.desk.pass p a × HasWorked b x p a
 ended b x y z hand p true still steps did last is = (finished b.hall.terms x.desk.pass p z.desk true (still_then x.desk.pass y.desk.pass z.desk.pass still did.desk.still) did.desk.after.0 (λ t. did.desk.after.1) (λ t. absurd (cc)) is, record { hand = hand; y = y; steps = steps; z = z; last = last; pass = is })
 ended b x y z hand p false still steps did last is = (finished b.hall.terms x.desk.pass p z.desk false (still_then x.desk.pass y.desk.pass z.desk.pass still did.desk.still) did.desk.after.0 (λ t. absurd (cc)) (λ t. did.desk.after.1) is, record { hand = hand; y = y; steps = steps; z = z; last = last; pass = is })
+
+pub came_to_end : (b : BenchView) (w x z : WorkerView) (hand : Option PackageView) (r : Step) (p : PassView) (a d : Bool) → IsStill w.desk.pass x.desk.pass → x.ready.threads ≡ threads b.hall.terms → Steps b w hand x → MakesStep b hand x z r → r ≡ last_step a → p ≡ z.desk.pass → d ≡ a
+    → IsFinished b.hall.terms w.desk.pass p d × HasWorked b w p d
+came_to_end b w x z hand r p a d still ready steps made is pass done =
+    let came = came_to b w x z hand r still ready steps made in
+    subst (λ (e : Bool). IsFinished b.hall.terms w.desk.pass p e × HasWorked b w p e) (sym done)
+    (ended b w came.y z came.at p a came.still came.steps (subst (λ (s : Step). WorkerSteps b came.y z s) is came.did.0) (subst (λ (s : Step). TakesStep b came.at came.y z s) is came.did.1) pass)
 
 -- ---- offers, one after another, and room for them
 

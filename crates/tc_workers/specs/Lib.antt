@@ -1,6 +1,6 @@
 pub mod Worker
 pub mod Search
-pub mod GoOn
+pub mod StepWith
 pub mod Turns
 pub mod Crew
 pub mod Rows

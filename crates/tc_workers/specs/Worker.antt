@@ -25,8 +25,16 @@ use Rattle.tc_workers.specs.declared.step.Step.{Step}
 use Rattle.tc_workers.specs.declared.step.Step.TheVariants.{On, AllDone, Stopped}
 use Rattle.tc_workers.specs.declared.worker.Worker.{Worker}
 
-abbrev pub worker_of : {Q S P : Type 0} → DeskView → ReadyView → Worker Q S P
+-- what contracts see of a worker: its desk, and the threads that it may try next
+pub record WorkerView : Type 0 where
+  pub desk : DeskView
+  pub ready : ReadyView
+
+abbrev pub worker_of : DeskView → ReadyView → WorkerView
 worker_of d r = record { desk = d; ready = r }
+
+abbrev pub view_of : {Q S P : Type 0} → Worker Q S P → WorkerView
+view_of w = worker_of w.desk w.ready
 
 -- ---- what is out with a pass
 
@@ -165,6 +173,7 @@ pub record DidLeave (hand : Option PackageView) (d e : DeskView) : Type 0 where
   pub told : Called (put_back hand ++ put_back d.aside) d.pass.knows e.pass.knows
   pub left : HasLeft e
   pub stop : HasStop e.pass.knows
+  pub rest : e ≡ record d { pass = e.pass; aside = None }
 
 -- after a step: it is at its desk with what it has in hand; or it has left, and has seen every thread Done, or that a stop was
 -- made
@@ -179,11 +188,11 @@ pub record DeskSteps (b : BenchView) (d e : DeskView) (s : Step) : Type 0 where
   pub after : IsStep b e s
 
 -- the worker did it, who may try as many threads as before
-pub record WorkerSteps {Q S P : Type 0} (b : BenchView) (x z : Worker Q S P) (s : Step) : Type 0 where
+pub record WorkerSteps (b : BenchView) (x z : WorkerView) (s : Step) : Type 0 where
   pub desk : DeskSteps b x.desk z.desk s
   pub ready : z.ready.threads ≡ x.ready.threads
 
 -- a worker at the bench, with this package in hand, where there is one
-pub record IsAtWork {Q S P : Type 0} (b : BenchView) (hand : Option PackageView) (w : Worker Q S P) : Type 0 where
+pub record IsAtWork (b : BenchView) (hand : Option PackageView) (w : WorkerView) : Type 0 where
   pub desk : IsAtDesk b hand w.desk
   pub ready : w.ready.threads ≡ threads b.hall.terms

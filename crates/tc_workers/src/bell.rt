@@ -40,15 +40,10 @@ impl Bell {
         self.up.load(Ordering::SeqCst)
     }
 
-    /// Whether one still has to wait for others to begin.
-    fn others_to_come(&self) -> bool {
-        self.strokes.load(Ordering::SeqCst) < self.workers
-    }
-
     /// Gives the processor away until all have begun, or so often. Whether all have.
     fn yield_for_others(&self) -> bool {
         for _ in 0..YIELDS {
-            if !self.others_to_come() {
+            if self.strokes.load(Ordering::SeqCst) >= self.workers {
                 return true;
             }
             yield_now();

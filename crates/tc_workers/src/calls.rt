@@ -10,7 +10,7 @@ use tc_hall::pass::Pass;
 use tc_queue::Waiters;
 
 /// Whether the run was stopped.
-pub fn stopped<Q: Waiters>(bench: &Bench<'_, Q>, desk: &mut Desk<Q>) -> bool
+pub fn sees_stop<Q: Waiters>(bench: &Bench<'_, Q>, desk: &mut Desk<Q>) -> bool
     requires { desk.old.pass.table ≡ bench.now.hall.table }
     ensures { LookedAtStop result desk.old desk.new }
 {

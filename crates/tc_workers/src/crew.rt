@@ -2,8 +2,8 @@
 
 ghost use Rattle.std.specs.Prelude.{◌<◌, None, IfOk, length, map};
 ghost use denote.Param.Send.{IsSend, IsSync};
-ghost use Rattle.tc_workers.specs.Worker.{IsAtWork};
-ghost use Rattle.tc_workers.specs.Turns.{IsFinished};
+ghost use Rattle.tc_workers.specs.Worker.{IsAtWork, view_of};
+ghost use Rattle.tc_workers.specs.Turns.{HasWorked, IsFinished};
 ghost use Rattle.tc_workers.specs.Crew.{AreAtWork, AreForHire, AreHired, HaveFinished, IsForHire, IsHired};
 
 use crate::bell::Bell;
@@ -29,14 +29,16 @@ fn hire_one<Q: Waiters>(
     ready: Ready,
 ) -> Result<Worker<Q>, AllocError>
     requires { IsForHire bench.now pass (map Q.seen seats.items) ready }
-    ensures { IfOk result (λ w. IsHired bench.now pass.knows.worker w) }
+    ensures { IfOk result (λ w. IsHired bench.now pass.knows.worker (map Q.seen seats.items)
+        ready (view_of w)) }
 {
     let sleepers = Sleepers::new(alloc, bench.image.threads())?;
     let desk = Desk::new(pass, seats, sleepers);
     Ok(Worker { desk, ready })
 }
 
-/// A worker for each pass, who has not begun. The one with the greatest number comes first.
+/// A worker for each pass, who has not begun, with the row of seats and the ready threads of its number.
+/// The one with the greatest number comes first.
 pub fn hire<Q: Waiters>(
     alloc: Global,
     bench: &Bench<'_, Q>,
@@ -46,8 +48,8 @@ pub fn hire<Q: Waiters>(
 ) -> Result<Vec<Worker<Q>>, AllocError>
     requires { AreForHire bench.now (λ row. map Q.seen row.items) passes.items seats.items
         crew.items }
-    ensures { IfOk result (λ ws. AreHired bench.now (length passes.items) (length passes.items)
-        ws.items) }
+    ensures { IfOk result (λ ws. AreHired bench.now (map (λ row. map Q.seen row.items) seats.items)
+        crew.items (length passes.items) (map view_of ws.items)) }
 {
     let mut workers = Vec::with_capacity(alloc, passes.len())?;
     for hired in 0..passes.len() {
@@ -74,8 +76,9 @@ fn serve<R: Wait, G: Gate, Q: Waiters>(
     bell: &Bell,
     worker: Worker<Q>,
 ) -> Finished
-    requires work { IsAtWork bench.now None worker }
+    requires work { IsAtWork bench.now None (view_of worker) }
     ensures finished { IsFinished bench.now.hall.terms worker.desk.pass result.pass result.all_done }
+    ensures worked { HasWorked bench.now (view_of worker) result.pass result.all_done }
 {
     bell.wait(rt);
     let finished = work(rt, bench, gate, bell, worker);
@@ -83,7 +86,8 @@ fn serve<R: Wait, G: Gate, Q: Waiters>(
     finished
 }
 
-/// Runs the workers beside one another until all have ended, and joins their passes into one.
+/// Runs the workers beside one another until all have ended, and joins their passes into one. All is
+/// done where each of them saw so: where a stop was made, none does.
 #[cycle(crew)]
 pub fn together<R: Threads + Wait + Sync, G: Gate, Q: Waiters>(
     rt: &R,
@@ -96,7 +100,7 @@ where
     Q::Place: Send,
     requires some { 0 < length crew.items }
     requires work { AreAtWork bench.now crew.items }
-    ensures { HaveFinished bench.now crew.items result.pass result.all_done }
+    ensures { HaveFinished bench.now (map view_of crew.items) result.pass result.all_done }
 {
     let Some(worker) = crew.pop() else {
         unreachable!();
@@ -106,11 +110,11 @@ where
     }
     let others = move || -> Finished
         requires { (0 < length crew.items) × AreAtWork bench.now crew.items }
-        ensures { HaveFinished bench.entry.now crew.items result.pass result.all_done }
+        ensures { HaveFinished bench.entry.now (map view_of crew.items) result.pass result.all_done }
     { together(rt, bench, gate, bell, crew) };
     let own = move || -> Finished
-        requires { IsSync R.row × IsSync G.row × IsSync Q.row × IsSend Q.Seat.row × IsSend Q.Place.row × IsAtWork bench.now None worker }
-        ensures { IsFinished bench.entry.now.hall.terms worker.desk.pass result.pass result.all_done }
+        requires { IsSync R.row × IsSync G.row × IsSync Q.row × IsSend Q.Seat.row × IsSend Q.Place.row × IsAtWork bench.now None (view_of worker) }
+        ensures { IsFinished bench.entry.now.hall.terms worker.desk.pass result.pass result.all_done × HasWorked bench.entry.now (view_of worker) result.pass result.all_done }
     { serve(rt, bench, gate, bell, worker) };
     let (own, rest) = join(rt, own, others);
     let Finished { mut pass, all_done } = own;
@@ -121,6 +125,6 @@ where
     bench.hall.join(&mut pass, other);
     Finished {
         pass,
-        all_done: all_done || others_done,
+        all_done: all_done && others_done,
     }
 }

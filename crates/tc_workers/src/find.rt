@@ -4,12 +4,12 @@ ghost use Rattle.std.specs.Prelude.{◌≡◌, ◌<◌, None};
 ghost use Rattle.tc_hall.specs.Rule.{threads};
 ghost use Rattle.tc_park.specs.Order.{NoneSleeps};
 ghost use Rattle.tc_workers.specs.Search.{Chooses, Finds, IsPause, IsSearch, IsTakenUp, IsTry, MaySearch};
-ghost use Rattle.tc_workers.specs.Worker.{DeskSteps, HasClaimed, IsAtWork, IsIdle, WorkerSteps};
+ghost use Rattle.tc_workers.specs.Worker.{DeskSteps, HasClaimed, IsAtWork, IsIdle, WorkerSteps, view_of};
 
 use crate::calls;
 use crate::gate::{Gate, Point};
+use crate::idling::Idling;
 use crate::leave::leave;
-use crate::rests::Rests;
 use crate::step::Step;
 use crate::worker::Worker;
 use tc_combiner::{Bench, Desk};
@@ -31,11 +31,12 @@ fn take_up<Q: Waiters>(bench: &Bench<'_, Q>, desk: &mut Desk<Q>, package: Packag
     requires claimed { HasClaimed bench.now «package» desk.old }
     ensures steps { DeskSteps bench.now desk.old desk.new result }
     ensures taken { IsTakenUp desk.old desk.new «package» result }
+    ensures rest { desk.new ≡ record desk.old { pass = desk.new.pass } }
 {
     if !package.is_pinned() {
         return Step::On(Some(package));
     }
-    if calls::stopped(bench, desk) {
+    if calls::sees_stop(bench, desk) {
         leave(bench, desk, Some(package));
         return Step::Stopped;
     }
@@ -43,7 +44,7 @@ fn take_up<Q: Waiters>(bench: &Bench<'_, Q>, desk: &mut Desk<Q>, package: Packag
 }
 
 /// Claims a thread that may have been claimed by another worker meanwhile.
-pub fn claim<G: Gate, Q: Waiters>(
+pub fn try_claim<G: Gate, Q: Waiters>(
     bench: &Bench<'_, Q>,
     gate: &G,
     desk: &mut Desk<Q>,
@@ -54,6 +55,7 @@ pub fn claim<G: Gate, Q: Waiters>(
     requires thread { t < threads bench.now.hall.terms }
     ensures steps { DeskSteps bench.now desk.old desk.new result }
     ensures tried { IsTry from t desk.old.pass.knows desk.new.pass.knows result }
+    ensures rest { desk.new ≡ record desk.old { pass = desk.new.pass } }
 {
     match bench.hall.claim(desk.pass(), t, from) {
         Ok(package) => {
@@ -65,8 +67,12 @@ pub fn claim<G: Gate, Q: Waiters>(
 }
 
 /// There is nothing to do and nobody sleeps: ends where each thread is seen to have ended, and else asks
-/// for a rest before the next step.
-fn rest<Q: Waiters>(bench: &Bench<'_, Q>, rests: &mut Rests<'_>, desk: &mut Desk<Q>) -> Step
+/// for a pause before the next step.
+fn end_or_pause<Q: Waiters>(
+    bench: &Bench<'_, Q>,
+    idling: &mut Idling<'_>,
+    desk: &mut Desk<Q>,
+) -> Step
     requires idle { IsIdle bench.now desk.old }
     requires sleepers { NoneSleeps desk.old.sleepers }
     ensures steps { DeskSteps bench.now desk.old desk.new result }
@@ -75,19 +81,19 @@ fn rest<Q: Waiters>(bench: &Bench<'_, Q>, rests: &mut Rests<'_>, desk: &mut Desk
     if calls::all_done(bench.hall, desk.pass(), bench.image.threads()) {
         return Step::AllDone;
     }
-    rests.ask();
+    idling.ask();
     Step::On(None)
 }
 
 /// There is nothing to do: moves the clock to the first sleeper.
-fn idle<Q: Waiters>(bench: &Bench<'_, Q>, rests: &mut Rests<'_>, desk: &mut Desk<Q>) -> Step
+fn idle<Q: Waiters>(bench: &Bench<'_, Q>, idling: &mut Idling<'_>, desk: &mut Desk<Q>) -> Step
     requires idle { IsIdle bench.now desk.old }
     ensures steps { DeskSteps bench.now desk.old desk.new result }
     ensures pause { IsPause (threads bench.now.hall.terms) desk.old desk.new result }
 {
     let now = desk.now();
     match desk.sleepers().least() {
-        None => rest(bench, rests, desk),
+        None => end_or_pause(bench, idling, desk),
         Some(due) => {
             desk.advance(due.max(now));
             Step::On(None)
@@ -98,19 +104,19 @@ fn idle<Q: Waiters>(bench: &Bench<'_, Q>, rests: &mut Rests<'_>, desk: &mut Desk
 /// The thread that the worker tries next, and where: a sleeper that is due, else one that is ready.
 fn choose<Q: Waiters>(
     bench: &Bench<'_, Q>,
-    rests: &mut Rests<'_>,
+    idling: &mut Idling<'_>,
     worker: &mut Worker<Q>,
 ) -> Option<(u32, Origin)>
-    requires { MaySearch bench.now worker.old }
-    ensures { Chooses bench.now worker.old worker.new result }
+    requires { MaySearch bench.now (view_of worker.old) }
+    ensures { Chooses bench.now (view_of worker.old) (view_of worker.new) result }
 {
     let now = worker.desk.now();
     if let Some(t) = worker.desk.sleepers().due(now) {
-        rests.found_sleeper();
+        idling.found_sleeper();
         return Some((t, Origin::Parked));
     }
     let t = worker.ready.next(bench.hall, worker.desk.pass())?;
-    rests.found_ready();
+    idling.found_ready();
     Some((t, Origin::Ready))
 }
 
@@ -118,33 +124,33 @@ fn choose<Q: Waiters>(
 fn seek<G: Gate, Q: Waiters>(
     bench: &Bench<'_, Q>,
     gate: &G,
-    rests: &mut Rests<'_>,
+    idling: &mut Idling<'_>,
     worker: &mut Worker<Q>,
 ) -> Step
-    requires { MaySearch bench.now worker.old }
-    ensures steps { WorkerSteps bench.now worker.old worker.new result }
-    ensures search { IsSearch (threads bench.now.hall.terms) worker.old worker.new result }
+    requires { MaySearch bench.now (view_of worker.old) }
+    ensures steps { WorkerSteps bench.now (view_of worker.old) (view_of worker.new) result }
+    ensures search { IsSearch (threads bench.now.hall.terms) (view_of worker.old) (view_of worker.new) result }
 {
-    match choose(bench, rests, worker) {
-        None => idle(bench, rests, &mut worker.desk),
-        Some((t, from)) => claim(bench, gate, &mut worker.desk, t, from),
+    match choose(bench, idling, worker) {
+        None => idle(bench, idling, &mut worker.desk),
+        Some((t, from)) => try_claim(bench, gate, &mut worker.desk, t, from),
     }
 }
 
 /// Goes on with the package that is set aside, else with a sleeper that is due, else with a thread
-/// that is ready. Where there is none, a rest is asked for.
+/// that is ready. Where there is none, a pause is asked for.
 pub(crate) fn find<G: Gate, Q: Waiters>(
     bench: &Bench<'_, Q>,
     gate: &G,
-    rests: &mut Rests<'_>,
+    idling: &mut Idling<'_>,
     worker: &mut Worker<Q>,
 ) -> Step
-    requires work { IsAtWork bench.now None worker.old }
-    ensures steps { WorkerSteps bench.now worker.old worker.new result }
-    ensures found { Finds bench.now worker.old.desk.aside worker.old worker.new result }
+    requires work { IsAtWork bench.now None (view_of worker.old) }
+    ensures steps { WorkerSteps bench.now (view_of worker.old) (view_of worker.new) result }
+    ensures found { Finds bench.now worker.old.desk.aside (view_of worker.old) (view_of worker.new) result }
 {
     match worker.desk.back() {
-        None => seek(bench, gate, rests, worker),
+        None => seek(bench, gate, idling, worker),
         Some(package) => Step::On(Some(package)),
     }
 }

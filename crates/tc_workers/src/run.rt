@@ -1,12 +1,13 @@
 //! Whole runs.
 
-ghost use Rattle.std.specs.Prelude.{ℕ, ◌<◌, ◌≤◌, ◌*◌, IfOk, length, map, min};
+ghost use Rattle.std.specs.Prelude.{◌≡◌, ℕ, ◌<◌, ◌≤◌, ◌*◌, true, false, IfOk, List, MatchResult, length, map, min};
 ghost use Rattle.tc_isa.specs.declared.limits.TheConstants.{MAX_FUEL};
 ghost use Rattle.tc_elf.specs.declared.limits.TheConstants.{MAX_THREADS};
 ghost use Rattle.tc_hall.specs.Steps.{IsEnd};
-ghost use Rattle.tc_workers.specs.Crew.{AreForHire, AreLines, HasRun};
-ghost use Rattle.tc_workers.specs.GoOn.{CanHave};
-ghost use Rattle.tc_workers.specs.Run.{IsWholeRun};
+ghost use Rattle.tc_queue.specs.Lines.{SeatView};
+ghost use Rattle.tc_workers.specs.Crew.{AreForHire, AreLines, CrewRan, HasRun};
+ghost use Rattle.tc_workers.specs.StepWith.{CanHave};
+ghost use Rattle.tc_workers.specs.Run.{IsCrewsRun, IsWholeRun};
 
 use crate::bell::Bell;
 use crate::crew::{hire, together};
@@ -43,10 +44,13 @@ fn room_of(threads: u32, fuel: u32) -> u32
     (threads * (fuel / 2 + 2)).min(MAX_OFFERS)
 }
 
-/// Ends a hall whose workers have all ended.
+/// Ends a hall whose workers have all ended. It is closed exactly where each of them saw that all is
+/// done.
 fn finish(hall: Hall, finished: Finished) -> Result<Closed, AllocError>
     requires { HasRun hall hall.terms.workers finished.pass finished.all_done }
-    ensures { IfOk result (λ c. IsEnd hall.terms finished.pass.knows c.packages c.locks) }
+    ensures end { IfOk result (λ c. IsEnd hall.terms finished.pass.knows c.packages c.locks) }
+    ensures done { MatchResult result (λ c. finished.all_done ≡ true)
+        (λ e. finished.all_done ≡ false) }
 {
     let Finished { pass, all_done } = finished;
     if all_done {
@@ -72,7 +76,8 @@ where
     requires some { 0 < length passes.items }
     requires hire { AreForHire bench.now (λ row. map Q.seen row.items) passes.items seats.items
         ready.items }
-    ensures { IfOk result (λ f. HasRun bench.now.hall (length passes.items) f.pass f.all_done) }
+    ensures { IfOk result (λ f. CrewRan bench.now (map (λ row. map Q.seen row.items) seats.items)
+        ready.items f.pass f.all_done) }
 {
     let crew = hire(alloc, bench, passes, seats, ready)?;
     let bell = Bell::new(crew.len() as u64);
@@ -97,7 +102,9 @@ where
     Q::Place: Send,
     requires { AreLines image.now options.workers (map Q.queue queues.items)
         (λ row. map Q.seen row.items) seats.items }
-    ensures { IfOk result (λ closed. IsWholeRun image.now options closed) }
+    ensures whole { IfOk result (λ closed. IsWholeRun image.now options closed) }
+    ensures crew { IfOk result (λ closed. IsCrewsRun image.now options
+        (map (λ row. map Q.seen row.items) seats.items) closed) }
 {
     let (fuel, workers) = (options.fuel, options.workers);
     let (hall, passes) = Hall::new(alloc, image, fuel, workers, options.limit)?;
@@ -124,7 +131,9 @@ pub fn run_all<R: Threads + Wait + Sync, G: Gate>(
     options: Options,
     gate: &G,
 ) -> Result<Closed, AllocError>
-    ensures { IfOk result (λ closed. IsWholeRun image.now options closed) }
+    ensures whole { IfOk result (λ closed. IsWholeRun image.now options closed) }
+    ensures crew { IfOk result (λ closed. (rows : List (List SeatView))
+        × IsCrewsRun image.now options rows closed) }
 {
     let Lines { queues, rows } = line_up(alloc, image, options.workers)?;
     run_with(rt, alloc, image, options, queues, rows, gate)

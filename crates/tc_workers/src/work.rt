@@ -3,7 +3,7 @@
 ghost use Rattle.std.specs.ControlFlow.{MatchControlFlow};
 ghost use Rattle.std.specs.Prelude.{◌≡◌, Some, None};
 ghost use Rattle.tc_workers.specs.declared.step.Step.TheVariants.{On};
-ghost use Rattle.tc_workers.specs.Worker.{HasLeft, IsAtWork, WorkerSteps};
+ghost use Rattle.tc_workers.specs.Worker.{HasLeft, IsAtWork, WorkerSteps, view_of};
 ghost use Rattle.tc_workers.specs.Turns.{Begins, HasBegun, HasWorked, IsFinished, MakesStep, TakesStep};
 
 use crate::bell::Bell;
@@ -11,10 +11,10 @@ use crate::calls;
 use crate::find::find;
 use crate::finished::Finished;
 use crate::gate::Gate;
-use crate::go_on::go_on;
+use crate::idling::Idling;
 use crate::leave::leave;
-use crate::rests::Rests;
 use crate::step::Step;
+use crate::step_with::step_with;
 use crate::worker::Worker;
 use std::ops::ControlFlow;
 use std::ops::ControlFlow::{Break, Continue};
@@ -29,69 +29,69 @@ use tc_queue::Waiters;
 fn begin_step<G: Gate, Q: Waiters>(
     bench: &Bench<'_, Q>,
     gate: &G,
-    rests: &mut Rests<'_>,
+    idling: &mut Idling<'_>,
     worker: &mut Worker<Q>,
     hand: Option<Package>,
 ) -> ControlFlow<Step, Package>
-    requires work { IsAtWork bench.now hand worker.old }
+    requires work { IsAtWork bench.now hand (view_of worker.old) }
     ensures steps { MatchControlFlow result
-        (λ p. WorkerSteps bench.now worker.old worker.new (On (Some «p»)))
-        (λ s. WorkerSteps bench.now worker.old worker.new s) }
-    ensures takes { MatchControlFlow result (λ p. HasBegun hand «p» worker.old worker.new)
-        (λ s. TakesStep bench.now hand worker.old worker.new s) }
+        (λ p. WorkerSteps bench.now (view_of worker.old) (view_of worker.new) (On (Some «p»)))
+        (λ s. WorkerSteps bench.now (view_of worker.old) (view_of worker.new) s) }
+    ensures takes { MatchControlFlow result (λ p. HasBegun hand «p» (view_of worker.old) (view_of worker.new))
+        (λ s. TakesStep bench.now hand (view_of worker.old) (view_of worker.new) s) }
 {
-    if calls::stopped(bench, &mut worker.desk) {
+    if calls::sees_stop(bench, &mut worker.desk) {
         leave(bench, &mut worker.desk, hand);
         return Break(Step::Stopped);
     }
     match hand {
-        None => Break(find(bench, gate, rests, worker)),
+        None => Break(find(bench, gate, idling, worker)),
         Some(package) => Continue(package),
     }
 }
 
 /// Begins a step. Where it finds a package, that is a whole step, and the next one is begun with it at
-/// once, unless a rest was asked for: so most steps cost no turn of the worker's loop.
+/// once, unless a pause was asked for: so most steps cost no turn of the worker's loop.
 fn begin<G: Gate, Q: Waiters>(
     bench: &Bench<'_, Q>,
     gate: &G,
-    rests: &mut Rests<'_>,
+    idling: &mut Idling<'_>,
     worker: &mut Worker<Q>,
     hand: Option<Package>,
 ) -> ControlFlow<Step, Package>
-    requires work { IsAtWork bench.now hand worker.old }
-    ensures { Begins bench.now hand worker.old worker.new result }
+    requires work { IsAtWork bench.now hand (view_of worker.old) }
+    ensures { Begins bench.now hand (view_of worker.old) (view_of worker.new) result }
 {
-    match begin_step(bench, gate, rests, worker, hand) {
+    match begin_step(bench, gate, idling, worker, hand) {
         Continue(package) => Continue(package),
         Break(Step::On(Some(package))) => {
-            if rests.are_asked() {
+            if idling.is_asked() {
                 return Break(Step::On(Some(package)));
             }
-            begin_step(bench, gate, rests, worker, Some(package))
+            begin_step(bench, gate, idling, worker, Some(package))
         }
         Break(Step::On(None)) => Break(Step::On(None)),
         Break(step) => Break(step),
     }
 }
 
-/// Makes a step, or two. Where a rest was asked for, the worker rests after it.
+/// Makes a step, or two. Where a pause was asked for, the worker pauses after it.
 fn make_step<R: Wait, G: Gate, Q: Waiters>(
     rt: &R,
     bench: &Bench<'_, Q>,
     gate: &G,
-    rests: &mut Rests<'_>,
+    idling: &mut Idling<'_>,
     worker: &mut Worker<Q>,
     hand: Option<Package>,
 ) -> Step
-    requires work { IsAtWork bench.now hand worker.old }
-    ensures { MakesStep bench.now hand worker.old worker.new result }
+    requires work { IsAtWork bench.now hand (view_of worker.old) }
+    ensures { MakesStep bench.now hand (view_of worker.old) (view_of worker.new) result }
 {
-    match begin(bench, gate, rests, worker, hand) {
-        Continue(package) => go_on(rt, bench, gate, worker, package),
+    match begin(bench, gate, idling, worker, hand) {
+        Continue(package) => step_with(rt, bench, gate, worker, package),
         Break(step) => {
-            if rests.are_asked() {
-                rests.rest(rt, worker.desk.now());
+            if idling.is_asked() {
+                idling.pause(rt, worker.desk.now());
             }
             step
         }
@@ -118,14 +118,14 @@ pub fn work<R: Wait, G: Gate, Q: Waiters>(
     bell: &Bell,
     mut worker: Worker<Q>,
 ) -> Finished
-    requires work { IsAtWork bench.now None worker }
+    requires work { IsAtWork bench.now None (view_of worker) }
     ensures finished { IsFinished bench.now.hall.terms worker.desk.pass result.pass result.all_done }
-    ensures worked { HasWorked bench.now worker result.pass result.all_done }
+    ensures worked { HasWorked bench.now (view_of worker) result.pass result.all_done }
 {
-    let mut rests = Rests::new(bell);
+    let mut idling = Idling::new(bell);
     let mut hand = None;
     for _ in rt.forever() {
-        match make_step(rt, bench, gate, &mut rests, &mut worker, hand) {
+        match make_step(rt, bench, gate, &mut idling, &mut worker, hand) {
             Step::On(next) => hand = next,
             Step::AllDone => return finished(worker, true),
             Step::Stopped => return finished(worker, false),

@@ -4,7 +4,7 @@
 
 ghost use Rattle.std.specs.Prelude.{◌≡◌, ◌<◌, None, All, IfOk, OnOk};
 ghost use Rattle.tc_workers.specs.Crew.{AreAtWork};
-ghost use Rattle.tc_workers.specs.GoOn.{step_of};
+ghost use Rattle.tc_workers.specs.StepWith.{step_of};
 ghost use Rattle.tc_workers.specs.Worker.{HasSealed, IsStep};
 ghost use Rattle.tc_workers_tests.specs.Scripts.{IsAtHall, IsPlaying};
 
@@ -35,10 +35,10 @@ use tc_queue::Queue;
 use tc_ready::Ready;
 use tc_workers::Open;
 use tc_workers::crew::hire;
-use tc_workers::find::claim;
-use tc_workers::go_on::{next, seal_block, wanted_lock};
+use tc_workers::find::try_claim;
 use tc_workers::lines::{Lines, line_up};
 use tc_workers::step::Step;
+use tc_workers::step_with::{next, seal_block, wanted_lock};
 use tc_workers::worker::Worker;
 
 /// What is done with a desk.
@@ -112,7 +112,7 @@ fn claim_thread<R: Abort>(
     assert!(rt; player.end.is_none());
     assert!(rt; player.desk.back().is_none());
     assert!(rt; t < bench.image.threads());
-    match claim(bench, &Open, &mut player.desk, t, from) {
+    match try_claim(bench, &Open, &mut player.desk, t, from) {
         Step::On(Some(package)) => player.hand = Some(package),
         _ => panic!(rt; "thread {t} is not there"),
     }

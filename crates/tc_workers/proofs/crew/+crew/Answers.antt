@@ -1,4 +1,4 @@
-use Rattle.std.proofs.Common.{rules, ◌≡◌, ◌<◌, ◌∙◌, ◌||◌, Bool, sym, ap, subst, length}
+use Rattle.std.proofs.Common.{rules, ◌≡◌, ◌<◌, ◌∙◌, ◌&&◌, Bool, sym, ap, subst, length, map}
 use denote.Param.{param}
 use denote.Ref.{NamedLft}
 use denote.Param.Send.{IsSend, IsSync, sendable}
@@ -7,6 +7,7 @@ use Rattle.tc_combiner.specs.View.{BenchView}
 use Rattle.tc_combiner.specs.contracts.desk.Bench as Bench
 use Rattle.tc_workers.specs.contracts.worker.Worker as Worker
 use Rattle.tc_workers.specs.Crew.{HaveFinished}
+use Rattle.tc_workers.specs.Worker.{view_of}
 use Rattle.tc_workers.proofs.Crossing.{bench_sync, worker_send, finished_send}
 use Rattle.tc_workers.proofs.Joining.{at_work_last, one_finished, all_finished}
 use Rattle.tc_workers.proofs.crew.+crew.Goals as goal
@@ -19,7 +20,7 @@ pub returns-then-is_empty : goal.returns-then-is_empty
 returns-then-is_empty g t c =
     let work = (at_work_last c.args.bench.now c.pop.new.self.items c.args.crew.items c.in-Some.worker c.requires.work c.in-Some.ensures.items).0 in
     let none : length c.pop.new.self.items ≡ 0 = search rules in
-    one_finished c.args.bench.now c.in-Some.worker c.pop.new.self.items c.args.crew.items c.serve.result.pass c.serve.result.all_done work c.serve.ensures.finished c.in-Some.ensures.items none
+    one_finished c.args.bench.now c.in-Some.worker c.pop.new.self.items c.args.crew.items c.serve.result.pass c.serve.result.all_done work c.serve.ensures.finished c.serve.ensures.worked c.in-Some.ensures.items none
 
 pub join-own-requires-send-F : goal.join-own-requires-send-F
 join-own-requires-send-F g t c κs within =
@@ -46,7 +47,7 @@ join-requires-clause-own g t c =
     let work = (at_work_last c.args.bench.now c.pop.new.self.items c.args.crew.items c.in-Some.worker c.requires.work c.in-Some.ensures.items).0 in
     let own = c.join-own.ensures.first in
     let rest = c.join-own.ensures.second in
-    ((own.still.own.0 ∙ work.desk.seat.fits.own) ∙ sym table, rest.end.own ∙ sym table)
+    ((own.0.still.own.0 ∙ work.desk.seat.fits.own) ∙ sym table, rest.end.own ∙ sym table)
 
 pub returns : goal.returns
 returns g t c =
@@ -55,6 +56,6 @@ returns g t c =
     let rest = c.join-own.ensures.second in
     let own_done = c.join-own.result.0.all_done in
     let rest_done = c.join-own.result.1.all_done in
-    let done : (own_done || rest_done) ≡ c.if-all_done.result = elim c.if-all_done.branch [ then-all_done w ↦ ap (λ (x : Bool). x || rest_done) w.if-all_done.true ∙ (sym w.if-all_done.true ∙ sym w.result-is) | else-all_done w ↦ ap (λ (x : Bool). x || rest_done) w.if-all_done.false ∙ sym w.result-is ] in
-    subst (λ (x : Bool). HaveFinished c.args.bench.now c.args.crew.items c.join.new.pass x) done
+    let done : (own_done && rest_done) ≡ c.if-all_done.result = elim c.if-all_done.branch [ then-all_done w ↦ ap (λ (x : Bool). x && rest_done) w.if-all_done.true ∙ sym w.result-is | else-all_done w ↦ ap (λ (x : Bool). x && rest_done) w.if-all_done.false ∙ (sym w.if-all_done.false ∙ sym w.result-is) ] in
+    subst (λ (x : Bool). HaveFinished c.args.bench.now (map view_of c.args.crew.items) c.join.new.pass x) done
     (all_finished c.args.bench.now c.in-Some.worker c.pop.new.self.items c.args.crew.items c.join-own.result.0.pass c.join-own.result.1.pass c.join.new.pass own_done rest_done work own rest c.in-Some.ensures.items c.join.ensures.own c.join.ensures.merged)

@@ -7,7 +7,7 @@ use Rattle.tc_workers.proofs.Desks.{other_sleepers}
 use Rattle.tc_workers.proofs.find.idle.Goals as goal
 
 pub returns-in-Some-clause-pause : goal.returns-in-Some-clause-pause
-returns-in-Some-clause-pause g c = sleeps c.in-Some.due (subst (λ (s : List (Option ℕ)). IsLeast s c.in-Some.due) c.sleepers.ensures.value c.in-Some.ensures) (ap (λ (d : DeskView). d.now) c.advance.ensures ∙ (c.max.ensures ∙ ap (max c.in-Some.due) c.now-now.ensures)) (ap (λ (d : DeskView). d.pass) c.advance.ensures)
+returns-in-Some-clause-pause g c = sleeps c.in-Some.due (subst (λ (s : List (Option ℕ)). IsLeast s c.in-Some.due) c.sleepers.ensures.value c.in-Some.ensures) (c.advance.ensures ∙ (λ i. record c.args.desk.now { sleepers = c.sleepers.ensures.value i; now = (c.max.ensures ∙ ap (max c.in-Some.due) c.now-now.ensures) i }))
 
 pub returns-in-Some-clause-steps : goal.returns-in-Some-clause-steps
 returns-in-Some-clause-steps g c = record {

@@ -1,12 +1,12 @@
 use Rattle.std.proofs.Common.{rules, ◌≡◌, arith, get_or, subst, length}
 use Rattle.tc_workers.proofs.Hiring.{one_longer}
-use Rattle.tc_workers.proofs.Rows.{Dealing, dealt_none, dealt_one, dealt_all, firsts_less}
+use Rattle.tc_workers.proofs.Rows.{Dealing, all_first, dealt_none, dealt_one, dealt_all, firsts_less}
 use Rattle.tc_workers.proofs.lines.deal.Goals as goal
 
 pub loop-dealt-init : goal.loop-dealt-init
 loop-dealt-init g c = record {
   left = search rules;
-  firsts = record { each = λ i s e. e };
+  firsts = all_first c.args.seats.items;
   dealing = dealt_none (λ row. row.items) c.args.rows.now.items c.args.seats.items (length c.args.seats.items) (omega arith) c.requires;
 }
 
@@ -21,7 +21,7 @@ loop-dealt-preserved g c =
     let old = c.index_mut.result.now in
     let at : get_or c.loop-dealt.rows.items (length rest) old ≡ old = search rules in record {
       left = omega arith;
-      firsts = firsts_less (λ row. row.items) c.args.rows.now.items c.args.seats.items rest c.loop-dealt.seats.items c.in-Some.seat i.firsts c.in-Some.ensures.items;
+      firsts = firsts_less c.args.seats.items c.loop-dealt.seats.items rest c.in-Some.seat i.firsts c.in-Some.ensures.items;
       dealing = dealt_one (λ row. row.items) c.args.rows.now.items c.args.seats.items (length c.loop-dealt.seats.items) c.loop-dealt.rows.items _ rest c.loop-dealt.seats.items c.in-Some.seat old c.push.new.self old i.dealing i.firsts c.in-Some.ensures.items (omega arith) (omega arith) at c.in_ok-push.ensures.items (search rules);
     }
 

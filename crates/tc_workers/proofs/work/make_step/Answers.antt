@@ -1,18 +1,19 @@
+use Rattle.tc_workers.specs.Worker.{view_of}
 use Rattle.tc_workers.proofs.Turning.{went_through}
 use Rattle.tc_workers.proofs.work.make_step.Goals as goal
 
 pub returns-in-Continue : goal.returns-in-Continue
 returns-in-Continue g c =
     let begun = c.in-Continue.ensures in
-    let went = went_through c.args.bench.now begun.at c.in-Continue.«package» begun.y c.begin.new.worker c.go_on.new.worker c.go_on.result begun.steps begun.takes c.go_on.ensures.steps c.go_on.ensures.goes_on in
+    let went = went_through c.args.bench.now begun.at c.in-Continue.«package» begun.y (view_of c.begin.new.worker) (view_of c.step_with.new.worker) c.step_with.result begun.steps begun.takes c.step_with.ensures.steps c.step_with.ensures.steps_with in
     record { at = begun.at; y = begun.y; reached = begun.reached; steps = went.0; takes = went.1 }
 
-pub returns-then-are_asked : goal.returns-then-are_asked
-returns-then-are_asked g c =
+pub returns-then-is_asked : goal.returns-then-is_asked
+returns-then-is_asked g c =
     let begun = c.in-Break.ensures in
     record { at = begun.at; y = begun.y; reached = begun.reached; steps = begun.steps; takes = begun.takes }
 
-pub returns-else-are_asked : goal.returns-else-are_asked
-returns-else-are_asked g c =
+pub returns-else-is_asked : goal.returns-else-is_asked
+returns-else-is_asked g c =
     let begun = c.in-Break.ensures in
     record { at = begun.at; y = begun.y; reached = begun.reached; steps = begun.steps; takes = begun.takes }

@@ -1,5 +1,5 @@
 use Rattle.std.proofs.Common.{refl}
-use Rattle.tc_workers.specs.GoOn.{step_of}
+use Rattle.tc_workers.specs.StepWith.{step_of}
 use Rattle.tc_workers_tests.proofs.Playing.{goes_on, playing}
 use Rattle.tc_workers_tests.proofs.scripts.go_on_as.Goals as goal
 

@@ -1,5 +1,6 @@
 use Rattle.std.proofs.Common.{◌≡◌, ◌∙◌, length, map, sym, ap}
 use Rattle.std.proofs.lemmas.List.{map-id}
+use lib.ListN.{length-map}
 use Rattle.tc_elf.specs.Shown.{Shown}
 use Rattle.tc_queue.specs.Lines.{seat_as}
 use Rattle.tc_queue.specs.View.{QueueView}
@@ -16,4 +17,6 @@ hire-requires-after_bounds g c κs =
     (c.threads.ensures.value ∙ sym (ap (λ (x : Shown). length x.entries) hall.image))
 
 pub perform-requires-clause-work : goal.perform-requires-clause-work
-perform-requires-clause-work g c κs within = at_work _ _ c.in_ok-hired.hired.items c.in_ok-hired.ensures
+perform-requires-clause-work g c κs within =
+    let rows = length-map c.in_ok-queues.field-0.rows.items (λ row. map seat_as row.items) ∙ c.in_ok-queues.ensures.count in
+    at_work _ _ _ (length c.in_ok-hall.passes.items) c.in_ok-hired.hired.items (c.in_ok-ready.ensures.count.0 ∙ sym rows) (rows ∙ sym c.in_ok-hall.ensures.passes.count) c.in_ok-hired.ensures

@@ -1,10 +1,10 @@
-//! How a worker goes on with a package.
+//! A worker's step with a package in hand.
 
 ghost use Rattle.std.specs.Prelude.{◌≡◌, ◌<◌, Some, None, All, MatchOption, MatchResult};
 ghost use Rattle.tc_context.specs.View.{IsRoomier, WantIsGranted};
 ghost use Rattle.tc_hall.specs.Rule.{threads};
-ghost use Rattle.tc_workers.specs.Worker.{DeskSteps, HasSealed, IsAtDesk, IsAtWork, IsStill, WorkerSteps};
-ghost use Rattle.tc_workers.specs.GoOn.{Acquires, AsksForLock, GivesUp, GoesOn, HasOffered, HasRunBlock, MayRun, RanOne, step_of};
+ghost use Rattle.tc_workers.specs.Worker.{DeskSteps, HasSealed, IsAtDesk, IsAtWork, IsStill, WorkerSteps, view_of};
+ghost use Rattle.tc_workers.specs.StepWith.{Acquires, AsksForLock, GivesUp, HasOffered, HasRunBlock, MayRun, RanOne, StepsWith, step_of};
 
 use crate::find::number;
 use crate::gate::{Gate, Point};
@@ -47,13 +47,6 @@ pub fn next(settled: Settled) -> Step
     }
 }
 
-/// Tells the gate where the thread was shipped.
-fn tell<G: Gate>(gate: &G, worker: u32, t: u32, settled: &Settled) {
-    if let Settled::Shipped = settled {
-        gate.at(worker, Point::Shipped(t));
-    }
-}
-
 /// Offers each of these threads. Few blocks make one ready: those that do pay for a call, and the
 /// others don't.
 #[inline(never)]
@@ -66,7 +59,8 @@ fn offer_all(threads: &[u32], ready: &mut Ready)
     }
 }
 
-/// Goes on by the desk's answer: tells the gate, and offers each thread that the desk put as ready.
+/// Goes on by the desk's answer: tells the gate where the thread was shipped, and offers each thread
+/// that the desk put as ready.
 fn conclude<G: Gate>(
     gate: &G,
     worker: u32,
@@ -79,7 +73,9 @@ fn conclude<G: Gate>(
     ensures step { result ≡ step_of settled }
     ensures offered { HasOffered handed.now ready.old ready.new }
 {
-    tell(gate, worker, t, &settled);
+    if let Settled::Shipped = &settled {
+        gate.at(worker, Point::Shipped(t));
+    }
     if !handed.is_empty() {
         offer_all(handed, ready);
     }
@@ -87,7 +83,7 @@ fn conclude<G: Gate>(
 }
 
 /// Takes this lock, which the package wants, or ships the package.
-fn acquire<R: Wait, G: Gate, Q: Waiters>(
+fn ask_for_lock<R: Wait, G: Gate, Q: Waiters>(
     rt: &R,
     bench: &Bench<'_, Q>,
     gate: &G,
@@ -95,7 +91,7 @@ fn acquire<R: Wait, G: Gate, Q: Waiters>(
     package: Package,
     lock: u32,
 ) -> Step
-    requires work { IsAtWork bench.now (Some «package») worker.old }
+    requires work { IsAtWork bench.now (Some «package») (view_of worker.old) }
     requires wants { AsksForLock «package» lock }
     ensures steps { DeskSteps bench.now worker.old.desk worker.new.desk result }
     ensures acquires { Acquires «package» worker.old.desk worker.new.desk result }
@@ -151,19 +147,19 @@ fn give_up<Q: Waiters>(bench: &Bench<'_, Q>, desk: &mut Desk<Q>, package: Packag
 
 /// Acquires the lock that the package wants, where it is not granted; else runs a block of it, where
 /// there is room for one, and settles it.
-pub(crate) fn go_on<R: Wait, G: Gate, Q: Waiters>(
+pub(crate) fn step_with<R: Wait, G: Gate, Q: Waiters>(
     rt: &R,
     bench: &Bench<'_, Q>,
     gate: &G,
     worker: &mut Worker<Q>,
     mut package: Package,
 ) -> Step
-    requires work { IsAtWork bench.now (Some «package») worker.old }
-    ensures steps { WorkerSteps bench.now worker.old worker.new result }
-    ensures goes_on { GoesOn bench.now.image «package» worker.old worker.new result }
+    requires work { IsAtWork bench.now (Some «package») (view_of worker.old) }
+    ensures steps { WorkerSteps bench.now (view_of worker.old) (view_of worker.new) result }
+    ensures steps_with { StepsWith bench.now.image «package» (view_of worker.old) (view_of worker.new) result }
 {
     if let Some(lock) = wanted_lock(&package, bench.image) {
-        return acquire(rt, bench, gate, worker, package, lock);
+        return ask_for_lock(rt, bench, gate, worker, package, lock);
     }
     let t = package.thread();
     let number = number(&mut worker.desk);

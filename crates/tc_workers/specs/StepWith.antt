@@ -1,5 +1,5 @@
 -- What a worker does with a package in hand, and what it comes to.
-use Rattle.std.specs.Prelude.{◌≡◌, ◌≢◌, ℕ, ◌≤◌, ◌+◌, ◌*◌, List, [], ◌∷◌, ◌++◌, length, map, Some, None}
+use Rattle.std.specs.Prelude.{◌≡◌, ◌≢◌, ℕ, ◌≤◌, ◌+◌, ◌-◌, ◌*◌, ◌^◌, min, List, [], ◌∷◌, ◌++◌, length, map, Some, None}
 use Rattle.tc_isa.specs.declared.limits.TheConstants.{MAX_HELD}
 use Rattle.tc_elf.specs.Shown.{Shown}
 use Rattle.tc_journal.specs.declared.block.Block.{Block}
@@ -16,10 +16,9 @@ use Rattle.tc_combiner.specs.declared.settled.Settled.TheVariants.{GoesOn as Did
 use Rattle.tc_combiner.specs.Packages.{Runs, Wants}
 use Rattle.tc_combiner.specs.Settling.{HasAcquired, HasSettled}
 use Rattle.tc_combiner.specs.View.{DeskView}
-use Rattle.tc_workers.specs.Worker.{HasLeft, IsStill, put_back}
+use Rattle.tc_workers.specs.Worker.{HasLeft, IsStill, WorkerView, put_back}
 use Rattle.tc_workers.specs.declared.step.Step.{Step}
 use Rattle.tc_workers.specs.declared.step.Step.TheVariants.{On, Stopped}
-use Rattle.tc_workers.specs.declared.worker.Worker.{Worker}
 
 -- ---- by the desk's answer
 
@@ -57,6 +56,7 @@ pub record Acquires (p : PackageView) (d e : DeskView) (s : Step) : Type 0 where
   pub asks : AsksForLock p lock
   pub answer : Settled
   pub acquired : HasAcquired p d e answer
+  pub clock : e.now ≡ d.now
   pub step : s ≡ step_of answer
 
 -- ---- a block
@@ -76,13 +76,14 @@ pub record RanOne (image : Shown) (end : End) (p q : PackageView) : Type 0 where
   pub ran : DidRun image reserved q
   pub ended : HasBlock (λ (b : Block). b.end ≡ end) q.pending
 
--- so it was, and the block was sealed
+-- so it was, and the block was sealed, at which the clock rises by 1, and nothing else was done
 pub record HasRunBlock (image : Shown) (end : End) (p q : PackageView) (d e : DeskView) : Type 0 where
   pub pending : PackageView
   pub ran : RanOne image end p pending
   pub stamp : ℕ
   pub sealed : DidSeal pending stamp d.pass.knows e.pass.knows
   pub after : q ≡ with_seal stamp d.pass.knows.worker pending
+  pub rest : e ≡ record d { pass = e.pass; now = min (d.now + 1) (2 ^ 64 - 1) }
 
 -- a block of the package was run and settled by its end, and the step is by the desk's answer
 pub record RunsBlock (image : Shown) (p : PackageView) (d e : DeskView) (s : Step) : Type 0 where
@@ -92,6 +93,7 @@ pub record RunsBlock (image : Shown) (p : PackageView) (d e : DeskView) (s : Ste
   pub block : HasRunBlock image end p sealed d between
   pub answer : Settled
   pub settled : HasSettled end sealed between e answer
+  pub clock : e.now ≡ between.now
   pub step : s ≡ step_of answer
 
 -- there was no memory for a block of the package: a stop was made, and then all was put back
@@ -99,10 +101,11 @@ pub record GivesUp (p : PackageView) (d e : DeskView) : Type 0 where
   pub still : IsStill d.pass e.pass
   pub left : HasLeft e
   pub told : Called (Stop ∷ put_back (Some p) ++ put_back d.aside) d.pass.knows e.pass.knows
+  pub rest : e ≡ record d { pass = e.pass; aside = None }
 
 -- the package's next lock was asked for; or that lock was granted, and a block was run, or there was no memory for one (the
 -- package may have got some room). The threads that were put as ready were offered
-pub data GoesOn {Q S P : Type 0} (image : Shown) (p : PackageView) (x z : Worker Q S P) (s : Step) : Type 0 where
-  acquires : Acquires p x.desk z.desk s → HasOffered z.desk.handed x.ready z.ready → GoesOn image p x z s
-  runs : WantIsGranted image p → RunsBlock image p x.desk z.desk s → HasOffered z.desk.handed x.ready z.ready → GoesOn image p x z s
-  gives_up : WantIsGranted image p → (q : PackageView) → IsRoomier p q → GivesUp q x.desk z.desk → s ≡ Stopped → z.ready ≡ x.ready → GoesOn image p x z s
+pub data StepsWith (image : Shown) (p : PackageView) (x z : WorkerView) (s : Step) : Type 0 where
+  acquires : Acquires p x.desk z.desk s → HasOffered z.desk.handed x.ready z.ready → StepsWith image p x z s
+  runs : WantIsGranted image p → RunsBlock image p x.desk z.desk s → HasOffered z.desk.handed x.ready z.ready → StepsWith image p x z s
+  gives_up : WantIsGranted image p → (q : PackageView) → IsRoomier p q → GivesUp q x.desk z.desk → s ≡ Stopped → z.ready ≡ x.ready → StepsWith image p x z s

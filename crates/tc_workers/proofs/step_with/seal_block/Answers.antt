@@ -1,7 +1,7 @@
 use Rattle.std.proofs.Common.{rules, length, ap}
 use Rattle.tc_combiner.specs.View.{BenchView, DeskView}
 use Rattle.tc_workers.proofs.Desks.{one_may, one_sealed, roomier_at}
-use Rattle.tc_workers.proofs.go_on.seal_block.Goals as goal
+use Rattle.tc_workers.proofs.step_with.seal_block.Goals as goal
 
 pub returns-in_err-end-clause-sealed : goal.returns-in_err-end-clause-sealed
 returns-in_err-end-clause-sealed g c =

@@ -2,7 +2,7 @@ use Rattle.std.proofs.Common.{rules, Some, sym, subst}
 use Rattle.tc_workers.specs.declared.step.Step.{Step}
 use Rattle.tc_workers.specs.Worker.{IsAtDesk, IsStep}
 use Rattle.tc_workers.proofs.Desks.{after_acquire}
-use Rattle.tc_workers.proofs.go_on.acquire.Goals as goal
+use Rattle.tc_workers.proofs.step_with.ask_for_lock.Goals as goal
 
 pub returns-clause-steps : goal.returns-clause-steps
 returns-clause-steps g c =

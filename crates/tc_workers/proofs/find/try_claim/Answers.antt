@@ -1,9 +1,10 @@
-use Rattle.std.proofs.Common.{None, sym, subst}
+use Rattle.std.proofs.Common.{None, sym, ap, subst, ◌∙◌}
 use Rattle.tc_hall.specs.PassView.{PassView}
+use Rattle.tc_combiner.specs.View.{DeskView}
 use Rattle.tc_workers.specs.Worker.{HasClaimed, IsUnmoved}
 use Rattle.tc_workers.proofs.Desks.{at_still, one_claimed}
 use Rattle.tc_workers.proofs.Passes.{unmoved_missed}
-use Rattle.tc_workers.proofs.find.claim.Goals as goal
+use Rattle.tc_workers.proofs.find.try_claim.Goals as goal
 
 pub take_up-requires-clause-claimed : goal.take_up-requires-clause-claimed
 take_up-requires-clause-claimed g c κs within = subst (HasClaimed c.args.bench.now c.in-Ok.«package») (sym c.number.ensures.same)
@@ -13,3 +14,6 @@ pub returns-in-Err-clause-steps : goal.returns-in-Err-clause-steps
 returns-in-Err-clause-steps g c =
     let u = subst (λ (p : PassView). IsUnmoved p c.claim.new.pass) c.pass.ensures.value (unmoved_missed c.pass.result.now c.claim.new.pass _ _ c.claim.ensures.own c.in-Err.ensures.result.1) in
     record { still = u.still; after = at_still c.args.bench.now None c.args.desk.now c.claim.new.pass c.requires.idle.desk u }
+
+pub returns-in-Ok-clause-rest : goal.returns-in-Ok-clause-rest
+returns-in-Ok-clause-rest g c = c.take_up.ensures.rest ∙ ap (λ (d : DeskView). record d { pass = c.take_up.new.desk.pass }) c.number.ensures.same
