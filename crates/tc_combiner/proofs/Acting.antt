@@ -1,8 +1,9 @@
 -- Calls of a pass, one after another, with each call that counts.
 use Rattle.std.proofs.Common.{◌≡◌, ◌≢◌, ◌==◌, ◌<◌, ◌≤◌, ◌+◌, ℕ, Bool, true, false, cond, arith, All, List, [], ◌∷◌, ◌++◌, length, length-append, filter, refl, sym, ap, ◌∙◌, subst, append_assoc, append-nil, Some, None, Option}
 use Rattle.tc_combiner.proofs.Vocabulary.{Acted, Acts, All-nil, AreAsked, AskedTimes, Asks, PassCall, Called, Came, Departure, HallView, DeskParts, HaveNoStop, IsAt, IsSamePass, Item, Knows, Leave, LineCall, MAX_HELD, MayAct, Miss, Moves, Next, Owned, Owns, PackageView, PassView, Put, Ready}
-use Rattle.tc_combiner.proofs.Vocabulary.{Refused, SawStopped, SeatView, Stop, Stopped, TakesDown, HallTerms, Tried, TriedAs, Try_stopped, Turn, WaitedAs, Waits, after_miss, after_stopped, change, counts, erase, nat_tests, outs, ready_in, saw, saw_if, threads, unanswered, with_line}
+use Rattle.tc_combiner.proofs.Vocabulary.{Refused, SawStopped, SeatView, Stop, Stopped, TakesDown, HallTerms, Tried, TriedAs, Try_stopped, Turn, WaitedAs, Waits, after_miss, after_stopped, change, counts, erase, looks_in, nat_tests, outs, ready_in, saw, saw_if, threads, unanswered, with_line}
 use Rattle.std.proofs.lemmas.List.Elements.{filter-append, All-append}
+use Rattle.tc_combiner.proofs.Looking.{looks_called, looks_then, looks_tried, looks_twice, unanswered_then}
 use Rattle.tc_combiner.proofs.Owning.{moves_none, rotate, unrotate}
 
 pub no_stops : (cs ds : List PassCall) → HaveNoStop cs → HaveNoStop ds → HaveNoStop (cs ++ ds)
@@ -24,11 +25,6 @@ asked_then u [] ds h k = k
 asked_then u (Next x e ∷ cs) ds h k = (h.0, asked_then u cs ds h.1 k)
 asked_then u (Leave x e ∷ cs) ds h k = (h.0, asked_then u cs ds h.1 k)
 asked_then u (c ∷ cs) ds h k = absurd h
-
-unanswered_then : (cs ds : List LineCall) → unanswered (cs ++ ds) ≡ unanswered cs + unanswered ds
-unanswered_then [] ds = omega arith
-unanswered_then (Next x None ∷ cs) ds = let e = unanswered_then cs ds in omega arith
-unanswered_then (c ∷ cs) ds = unanswered_then cs ds
 
 pub asked_line : (n k : ℕ) (u : Turn) (s t r : SeatView) (c : LineCall) → AskedTimes n u s t → r ≡ with_line t c → AreAsked u (c ∷ []) → unanswered (c ∷ []) ≡ k → AskedTimes (n + k) u s r
 asked_line n k u s t r c h e mine f =
@@ -55,18 +51,19 @@ acts_then ds es xs ys zs p q r a b = record {
     calls = a.adds.calls ++ b.adds.calls;
     told = told_then a.adds.calls b.adds.calls p.knows q.knows r.knows a.adds.told b.adds.told;
     stops = no_stops a.adds.calls b.adds.calls a.adds.stops b.adds.stops;
+    looks = looks_twice 0 0 p.knows q.knows r.knows [] [] [] a.adds.looks b.adds.looks;
     are = filter-append counts a.adds.calls b.adds.calls ∙ (ap (λ (l : List PassCall). l ++ filter counts b.adds.calls) a.adds.are ∙ ap (λ (l : List PassCall). ds ++ l) b.adds.are);
   };
   moves = λ c us o. b.moves c us (a.moves c us o);
 }
 
 -- the hall made these calls, of which those count
-pub acts_told : (cs ds : List PassCall) (xs ys : List Item) (p q : PassView) → filter counts cs ≡ ds → HaveNoStop cs → IsSamePass p q → Called cs p.knows q.knows → Moves p.knows q.knows xs ys → Acts ds xs ys p q
-acts_told cs ds xs ys p q e n own told m = record { own = own; adds = record { calls = cs; told = told; stops = n; are = e }; moves = m }
+pub acts_told : (cs ds : List PassCall) (xs ys : List Item) (p q : PassView) → filter counts cs ≡ ds → HaveNoStop cs → IsSamePass p q → Called cs p.knows q.knows → Moves p.knows q.knows xs ys → q.knows.missed ≡ p.knows.missed → Acts ds xs ys p q
+acts_told cs ds xs ys p q e n own told m missed = record { own = own; adds = record { calls = cs; told = told; stops = n; are = e; looks = looks_called p.knows q.knows cs missed told.calls }; moves = m }
 
 -- where nothing was called
 pub acts_still : (p : PassView) (xs ys : List Item) → Moves p.knows p.knows xs ys → Acts [] xs ys p p
-acts_still p xs ys m = acts_told [] [] xs ys p p refl tt (refl, refl) (record { image = refl; worker = refl; sealed = refl; joined = refl; calls = sym (append-nil p.knows.calls) }) m
+acts_still p xs ys m = acts_told [] [] xs ys p p refl tt (refl, refl) (record { image = refl; worker = refl; sealed = refl; joined = refl; calls = sym (append-nil p.knows.calls) }) m refl
 
 pub acts_none : (p : PassView) (xs : List Item) → Acts [] xs xs p p
 acts_none p xs = acts_still p xs xs (λ c us o. o)
@@ -86,7 +83,7 @@ saw_counts false word one other = let ne = other refl in let e : (word == 1) ≡
 pub acts_looked : (b : Bool) (p q : PassView) → IsSamePass p q → SawStopped b p.knows q.knows → Acts (saw_if b) [] [] p q
 acts_looked b p q own s = acts_told (Stopped s.word ∷ []) (saw_if b) [] [] p q (saw_counts b s.word s.one s.other) tt own
     (subst (λ (w : Knows). Called (Stopped s.word ∷ []) p.knows w) (sym s.now) (record { image = refl; worker = refl; sealed = refl; joined = refl; calls = refl }))
-    (moves_none p.knows q.knows (ap outs s.now))
+    (moves_none p.knows q.knows (ap outs s.now)) (ap (λ (w : Knows). w.missed) s.now)
 
 -- ---- steps that were refused, and calls
 
@@ -107,15 +104,23 @@ tried_then a b c d v w x h k = record {
   each = length-append h.misses k.misses ∙ (ap (λ (n : ℕ). n + length k.misses) h.each ∙ ap (λ (n : ℕ). a + n) k.each);
   calls = h.calls ++ k.calls;
   added = k.added ∙ (ap (λ (l : List PassCall). l ++ k.calls) h.added ∙ append_assoc v.calls h.calls k.calls);
-  all = length-append h.calls k.calls ∙ (ap (λ (n : ℕ). n + length k.calls) h.all ∙ ap (λ (n : ℕ). b + n) k.all);
+  all = looks_then h.calls k.calls ∙ (ap (λ (n : ℕ). n + looks_in k.calls) h.all ∙ ap (λ (n : ℕ). b + n) k.all);
 }
 
 -- a step that was refused, and the look at STOP behind it
 pub misses : (b x : Bool) (word found : ℕ) (p q r : PassView) → b ≡ x → IsSamePass p q → q.knows ≡ after_miss p.knows word found → Acts (saw_if b) [] [] q r → Tried 0 1 q.knows r.knows → Acts (saw_if x) [] [] p r × Tried 1 1 p.knows r.knows
 misses b x word found p q r e own miss s l =
-    let missed : Acts [] [] [] p q = acts_told [] [] [] [] p q refl tt own (subst (λ (w : Knows). Called [] p.knows w) (sym miss) (record { image = refl; worker = refl; sealed = refl; joined = refl; calls = sym (append-nil p.knows.calls) })) (moves_none p.knows q.knows (ap outs miss)) in
-    let tried : Tried 1 0 p.knows q.knows = record { misses = record { word = word; found = found } ∷ []; missed = ap (λ (x : Knows). x.missed) miss; each = refl; calls = []; added = ap (λ (x : Knows). x.calls) miss ∙ sym (append-nil p.knows.calls); all = refl } in
-    (acts_then [] (saw_if x) [] [] [] p q r missed (subst (λ (y : Bool). Acts (saw_if y) [] [] q r) e s), tried_then 1 0 0 1 p.knows q.knows r.knows tried l)
+    let a : Acts (saw_if x) [] [] q r = subst (λ (y : Bool). Acts (saw_if y) [] [] q r) e s in
+    let same : Called [] p.knows q.knows = subst (λ (w : Knows). Called [] p.knows w) (sym miss) (record { image = refl; worker = refl; sealed = refl; joined = refl; calls = sym (append-nil p.knows.calls) }) in
+    let missed : Tried 1 0 p.knows q.knows = record { misses = record { word = word; found = found } ∷ []; missed = ap (λ (x : Knows). x.missed) miss; each = refl; calls = []; added = ap (λ (x : Knows). x.calls) miss ∙ sym (append-nil p.knows.calls); all = refl } in
+    let tried : Tried 1 1 p.knows r.knows = tried_then 1 0 0 1 p.knows q.knows r.knows missed l in (
+      record {
+        own = (a.own.0 ∙ own.0, a.own.1 ∙ own.1);
+        adds = record { calls = a.adds.calls; told = told_then [] a.adds.calls p.knows q.knows r.knows same a.adds.told; stops = a.adds.stops; are = a.adds.are; looks = looks_tried 1 1 p.knows r.knows (omega arith) tried };
+        moves = λ c us o. a.moves c us (moves_none p.knows q.knows (ap outs miss) c us o);
+      },
+      tried,
+    )
 
 pub waits_none : (p : PassView) → Waits p p
 waits_none p = (acts_none p [], (0, tried_still p.knows))

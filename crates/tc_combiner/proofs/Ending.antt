@@ -15,6 +15,7 @@ use Rattle.tc_turn.proofs.Few.{less_few}
 use Rattle.tc_combiner.proofs.Acting.{acted_by, acted_then, acts_none, at_after, takes_none}
 use Rattle.tc_combiner.proofs.Answering.{back_answers, keeps_answers, then_answers, then_at, wider}
 use Rattle.tc_combiner.proofs.PassedOn.{few_left, few_more, left_after}
+use Rattle.tc_combiner.proofs.Looking.{looks_at, looks_further, looks_none, looks_twice, looks_within}
 use Rattle.tc_combiner.proofs.Packages.{not_some, plain_gives, releases_uncut}
 use Rattle.tc_combiner.proofs.Owning.{place_here, place_other}
 use Rattle.tc_combiner.proofs.Seats.{map_at, seat_before}
@@ -126,6 +127,9 @@ leaves_first hall b q ss h m locks = record {
   within = λ j f. f;
   left = λ j f. refl;
   gone = λ j f. not_some (locked_in q j) (locks j ∙ f);
+  passed = 0;
+  few = omega arith;
+  looks = looks_none h.pass.knows ss;
   count = refl;
   others = λ j f. refl;
   wait = λ j f. refl;
@@ -148,6 +152,9 @@ leaves_one k b q p r rest next i ss ts us h g m was is y waits least small each 
       within = λ j f. y.within j (left_in rest next i j each f).1;
       left = λ j f. let z = left_in rest next i j each f in place_other i None p r d.taken.locks j z.0 ∙ y.left j z.1;
       gone = λ j f. dite (ℕ_discrete j i) (λ (s : j ≡ i). ap (locked_in r) s ∙ place_here i None p r d.taken.locks) (λ (ne : j ≢ i). place_other i None p r d.taken.locks j ne ∙ y.gone j (gone_in rest next i j each f ne));
+      passed = y.passed + 1;
+      few = let less = less_few rest next i each waits small in let old = y.few in omega arith;
+      looks = looks_twice y.passed 1 h.pass.knows g.pass.knows m.pass.knows ss ts us y.looks (looks_at 1 i g.pass.knows m.pass.knows ts us at d.looks);
       count = at.same.count ∙ y.count;
       others = λ j f. at.others j (λ e. let z : has b.held i ≡ true = y.within i waits in let w : has b.held i ≡ false = ap (has b.held) (sym e) ∙ f in let n : ⊥ = cc in n) ∙ y.others j f;
       wait = λ j f. let z = left_in rest next i j each f in at.others j z.0 ∙ y.wait j z.1;
@@ -194,6 +201,7 @@ left_all {k = k} {b = b} {q = q} {p = p} {rest = rest} {ss = ss} {ts = ts} {h = 
   aside = y.aside;
   emptied = record { same = y.same; granted = y.granted; free = λ j. y.gone j (has_none j) };
   seats_left = record { count = y.count; others = y.others; asks = λ j held. y.asks j held (has_none j) };
+  looks = looks_within y.passed (length (locks_of b.held)) h.pass.knows g.pass.knows ss ts (let few = y.few in omega arith) y.looks;
   order = subst (λ (c : List PassCall). LeftInOrder (by_parts k q (change ss ts) (change h g)) b (locks_of b.held) c false now) (append-nil y.calls) (y.order ts [] now (λ j f. refl) (refl, refl));
 }
 
@@ -259,14 +267,14 @@ module _ {hall : HallView} {b : Block} {q p : PackageView} {ss ts : List SeatVie
     calls = d.calls ++ put_call p Done ∷ [];
     answers = then_answers hall.terms d.calls (put_call p Done ∷ []) q p h m g Has_ended d.acted d.aside
         (keeps_answers hall (put_call p Done ∷ []) p m g Has_ended (at_end false d) (wider (put_call p Done ∷ []) p m g f a) (takes_none (threads hall.terms) m.ready.items g.ready.items (put_call p Done ∷ []) e refl) f);
-    became = (d.seats_left, (p, d.calls, refl, d.emptied, then_order g false d, f ∙ d.aside));
+    became = (d.seats_left, looks_further (length (locks_of b.held)) h.pass.knows m.pass.knows g.pass.knows ss ts d.looks a.adds.looks, (p, d.calls, refl, d.emptied, then_order g false d, f ∙ d.aside));
   }
 
   stops_as : (g : DeskParts) → DidLeaveAll hall.terms b (change q p) (change ss ts) (change h m) true → PutAllBack p (change m g) → Ends hall.terms b q (change ss ts) (change h g) Did_stop
   stops_as g d a = record {
     calls = d.calls ++ back p m.aside;
     answers = then_answers hall.terms d.calls (back p m.aside) q p h m g Did_stop d.acted d.aside (back_answers hall.terms p m g a);
-    became = (d.seats_left, (p, d.calls, ap (λ (o : Option PackageView). d.calls ++ back p o) d.aside, d.emptied, then_order g true d, a.aside));
+    became = (d.seats_left, looks_further (length (locks_of b.held)) h.pass.knows m.pass.knows g.pass.knows ss ts d.looks a.acts.adds.looks, (p, d.calls, ap (λ (o : Option PackageView). d.calls ++ back p o) d.aside, d.emptied, then_order g true d, a.aside));
   }
 
   pub ends_done : (g : DeskParts) (is : Bool) → is ≡ false → DidLeaveAll hall.terms b (change q p) (change ss ts) (change h m) is → Acts (put_call p Done ∷ []) (Pack p ∷ []) [] m.pass g.pass → g.ready.items ≡ m.ready.items → g.aside ≡ m.aside → Ends hall.terms b q (change ss ts) (change h g) Has_ended

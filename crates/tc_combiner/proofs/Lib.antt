@@ -1,5 +1,6 @@
 pub mod Vocabulary
 pub mod Owning
+pub mod Looking
 pub mod Acting
 pub mod Answering
 pub mod Packages

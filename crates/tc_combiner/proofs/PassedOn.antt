@@ -1,12 +1,13 @@
 -- What became of a released lock, from its parts.
 use Rattle.std.proofs.Common.{⊎_elim, length-append, ◌&&◌, ◌≡◌, ◌<◌, ◌≤◌, ◌+◌, ℕ, true, false, List, [], ◌∷◌, ◌++◌, length, refl, sym, ap, ◌∙◌, subst, Some, ◌≢◌, Bool, not, ◌==◌, if◌then◌else◌, arith, Option, None}
 use Rattle.tc_combiner.proofs.Vocabulary.{Acts, Adopted, All-cons, All-nil, Asks, Block, PassCall, Change, DeskStep, DidGrant, DidGrantNext, DidPass, DidTakeOut, End, FollowedAs, Free, GaveUp, Granted, HallView, GrantedAs, DeskParts, IsAt, IsAtRest, IsLeft, IsNumber, IsReleased, IsSoundPackage, IsTaken, IsTurn, IsWaiter, Item, Kind, Knows}
-use Rattle.tc_combiner.proofs.Vocabulary.{LeftAs, LockView, Loose, MayAct, MayBringHome, MayGive, MayGrantNext, MayPassTo, MayRelease, Moves, Next, Outs, Owned, Owns, Pack, PackageView, PassView, Passed, Ready, Releases, EndsSection, SeatTells, SeatView, Shown, Shows, Takes, HallTerms, Turn, Unlocked, Was_adopted, Was_granted, Was_stopped, Went_home, adopts}
-use Rattle.tc_combiner.proofs.Vocabulary.{and_parts, bare, blocks_of, by_parts, change, ends_section, ends_thread, granted_lock, grants_adopted, adopted_in, has, is_only, is_passed, last_of, locked_in, locks, may_adopt, nat_tests, outs, passes_to, put_call, ready_in, run_of, saw, threads, turn_of, unless, unlocks, was_cut}
+use Rattle.tc_combiner.proofs.Vocabulary.{LeftAs, LockView, LooksAfterFirst, LooksEachTime, Loose, MayAct, MayBringHome, MayGive, MayGrantNext, MayPassTo, MayRelease, Moves, Next, Outs, Owned, Owns, Pack, PackageView, PassView, Passed, Ready, Releases, EndsSection, SeatTells, SeatView, Shown, Shows, Takes, HallTerms, Turn, Unlocked, Was_adopted, Was_granted, Was_stopped, Went_home, adopts}
+use Rattle.tc_combiner.proofs.Vocabulary.{and_parts, bare, blocks_of, by_parts, change, ends_section, ends_thread, granted_lock, grants_adopted, adopted_in, has, is_only, is_passed, last_of, locked_in, locks, may_adopt, nat_tests, one_seat, outs, passes_to, put_call, ready_in, run_of, saw, threads, turn_of, unless, unlocks, was_cut}
 use Rattle.tc_context.specs.View.{IsAt as IsKeptAt}
 use Rattle.std.proofs.lemmas.Bool.{and_right}
 use Rattle.tc_nested.proofs.Allowing.{adopted, granted}
 use Rattle.tc_combiner.proofs.Acting.{acted_by, acted_then, acts_beside, acts_by, acts_still, acts_then, may_still, owned_by}
+use Rattle.tc_combiner.proofs.Looking.{looks_first, looks_further}
 use Rattle.tc_combiner.proofs.Owning.{comes_out, granted_moves, taken_with, without_first}
 use Rattle.tc_combiner.proofs.Packages.{waiter_good, good_order}
 use Rattle.tc_hall.proofs.Behind.{unpinned}
@@ -96,7 +97,7 @@ few_left x l b own cs true true h = few_none cs _ h.1 refl
 
 -- what became of a lock, in other words
 pub gave_as : {k : HallTerms} {i : ℕ} {q : Change PackageView} {xs : List Item} {seat : Change SeatView} {parts : Change DeskParts} {How Other : LockView → List PassCall → Type 0} (d : GaveUp k i q xs seat parts How) → Other d.state d.calls → GaveUp k i q xs seat parts Other
-gave_as d how = record { calls = d.calls; acted = d.acted; aside = d.aside; state = d.state; taken = d.taken; asks = d.asks; became = how }
+gave_as d how = record { calls = d.calls; acted = d.acted; aside = d.aside; state = d.state; taken = d.taken; asks = d.asks; looks = d.looks; became = how }
 
 -- so the list of ready threads has one more at most
 pub few_more : {k : HallTerms} {i : ℕ} {q p : PackageView} {xs : List Item} {s t : SeatView} {h g : DeskParts} {How : LockView → List PassCall → Type 0} (d : GaveUp k i (change q p) xs (change s t) (change h g) How) → length (ready_in d.calls) ≤ 1 → length g.ready.items ≤ length h.ready.items + 1
@@ -190,28 +191,30 @@ followed x l b own u cs Was_granted k h = (u, k, h)
 followed x l b own u cs (Was_adopted q) k h = (u, k, h)
 followed x l b own u cs Was_stopped k h = h
 
-pub passes : (k : HallTerms) (i : ℕ) (b : Block) (l : LockView) (own u : Turn) (q p : PackageView) (s t : SeatView) (h m g : DeskParts) (r : Passed) → DidTakeOut i l q p → Acts [] [] [] h.pass m.pass → m.ready.items ≡ h.ready.items → m.aside ≡ h.aside → own ≡ turn_of q i → Asks own s t → Shows s.calls t.calls (Next own (Some u))
+pub passes : (k : HallTerms) (i : ℕ) (b : Block) (l : LockView) (own u : Turn) (q p : PackageView) (s t : SeatView) (h m g : DeskParts) (r : Passed) → DidTakeOut i l q p → Acts [] [] [] h.pass m.pass → m.ready.items ≡ h.ready.items → m.aside ≡ h.aside → own ≡ turn_of q i → Asks own s t → LooksAfterFirst own s t h.pass.knows m.pass.knows → Shows s.calls t.calls (Next own (Some u))
     → DidGrantNext k l b u (Loose l ∷ []) (change m g) r → DidPass k i b (change q p) (change s t) (change h g) r
-passes k i b l own u q p s t h m g r d a e f same asks shown y = record {
+passes k i b l own u q p s t h m g r d a e f same asks looks shown y = record {
   calls = y.calls;
   acted = record { acts = out_then [] y.calls i l q p (adopted_in r) h.pass m.pass g.pass d a y.acted.acts; readied = (y.acted.readied.0 ∙ ap (λ (n : List ℕ). n ++ ready_in y.calls) e, y.acted.readied.1) };
   aside = y.aside ∙ f;
   state = l;
   taken = d;
   asks = subst (λ (z : Turn). Asks z s t) same asks;
+  looks = looks_further 1 h.pass.knows m.pass.knows g.pass.knows (s ∷ []) (t ∷ []) (looks_first own s t h.pass.knows m.pass.knows looks) y.acted.acts.adds.looks;
   became = followed (by_parts k q (change s t) (change h g)) l b (turn_of q i) u y.calls r (subst (λ (z : Turn). Shows s.calls t.calls (Next z (Some u))) same shown) y.became;
 }
 
 -- the lock came out, and went home
-pub frees : (k : HallTerms) (es : List PassCall) (i : ℕ) (l : LockView) (own : Turn) (q p : PackageView) (s t : SeatView) (h g : DeskParts) (m : PassView) (How : Turn → LockView → List PassCall → Type 0) → DidTakeOut i l q p → own ≡ turn_of q i → Asks own s t → Acts es [] [] h.pass m → Acts (Free l.number ∷ []) (Loose l ∷ []) [] m g.pass
+pub frees : (k : HallTerms) (es : List PassCall) (i : ℕ) (l : LockView) (own : Turn) (q p : PackageView) (s t : SeatView) (h g : DeskParts) (m : PassView) (How : Turn → LockView → List PassCall → Type 0) → DidTakeOut i l q p → own ≡ turn_of q i → Asks own s t → LooksEachTime 1 h.pass.knows m.knows (one_seat (change s t)) → Acts es [] [] h.pass m → Acts (Free l.number ∷ []) (Loose l ∷ []) [] m g.pass
     → g.ready.items ≡ h.ready.items → g.aside ≡ h.aside → ready_in (es ++ Free l.number ∷ []) ≡ [] → How own l (es ++ Free l.number ∷ []) → GaveUp k i (change q p) [] (change s t) (change h g) (How (turn_of q i))
-frees k es i l own q p s t h g m How d same asks a f e n none how = record {
+frees k es i l own q p s t h g m How d same asks looks a f e n none how = record {
   calls = es ++ Free l.number ∷ [];
   acted = acted_by k (es ++ Free l.number ∷ []) (Pack q ∷ []) (Pack p ∷ []) h g (out_then es (Free l.number ∷ []) i l q p [] h.pass m g.pass d a f) e none;
   aside = n;
   state = l;
   taken = d;
   asks = subst (λ (u : Turn). Asks u s t) same asks;
+  looks = looks_further 1 h.pass.knows m.knows g.pass.knows (s ∷ []) (t ∷ []) looks f.adds.looks;
   became = subst (λ (u : Turn). How u l (es ++ Free l.number ∷ [])) same how;
 }
 

@@ -2,6 +2,7 @@
 use Rattle.std.proofs.Common.{◌≡◌, ◌≢◌, ◌<◌, ◌≤◌, ◌+◌, ℕ, Bool, true, false, not, ◌&&◌, ◌||◌, ◌==◌, if◌then◌else◌, List, [], ◌∷◌, length, refl, sym, ap, ◌∙◌, subst, arith, Option, Some, None, is_some}
 use Rattle.tc_combiner.proofs.Vocabulary.{AcquiredAs, Acquires, Answers, AreSameSeats, AtSeat, Block, PassCall, Cut, DeskView, DidAcquire, DidEnd, DidUnlock, End, EndedAs, Ends, HallView, DeskParts, HasBlock, HasOnlyHeld, HasReadied, IsAfter, IsAfterBlock, IsAtHall, IsGood, IsPlain, IsSoundPackage, Item, KeepsParts, Knows, LockView, MAX_HELD, MayAct, MayAsk, MayEnd, MayPark, MayRelease}
 use Rattle.tc_combiner.proofs.Vocabulary.{MaySettle, MayUnlock, PackageView, Sleeping, Runs, SeatView, Settled, SettledAs, Shown, Slept, HallTerms, Unlocked, UnlockedAs, Unlocks, WantIsLawful, Wants, Wants_lock, by_parts, change, desk_of, desk_with, ends_section, ends_thread, has, is_cut, last_of, locked_in, locks, nat_tests, next_lock, seat_at, thread_in, threads, was_cut}
+use Rattle.tc_combiner.proofs.Looking.{looks_at, looks_entered, none_asked}
 use Rattle.tc_combiner.proofs.PassedOn.{left_after}
 use Rattle.tc_combiner.proofs.Ending.{known_in}
 use Rattle.tc_combiner.proofs.Packages.{no_other, ungranted_fits}
@@ -151,6 +152,7 @@ module _ (k : HallTerms) (q : PackageView) (ss ts : List SeatView) (sl : List (O
     same = record { others = a.others; sleepers = refl };
     calls = a.here.calls;
     adds = a.here.answers.acts.adds;
+    looks = looks_entered i h.pass.knows g.pass.knows ss ts a (none_asked (by_parts k q (change (seat_at ss i) (seat_at ts i)) (change h g)) i a.here.calls r a.here.became) a.here.answers.acts.adds.looks;
     acquired = subst (λ (x : Shown). AcquiredAs (record (by_parts k q (change (seat_at ss i) (seat_at ts i)) (change h g)) { image = x }) i a.here.calls r) (sym image) a.here.became;
   }
 
@@ -160,7 +162,8 @@ module _ (k : HallTerms) (q : PackageView) (ss ts : List SeatView) (sl : List (O
     asks = a.here.became.0;
     calls = a.here.calls;
     adds = a.here.answers.acts.adds;
-    unlocked = subst (λ (x : Shown). UnlockedAs (record (by_parts k q (change (seat_at ss i) (seat_at ts i)) (change h g)) { image = x }) i b a.here.calls r) (sym image) a.here.became.1;
+    looks = looks_at 1 i h.pass.knows g.pass.knows ss ts a a.here.became.1;
+    unlocked = subst (λ (x : Shown). UnlockedAs (record (by_parts k q (change (seat_at ss i) (seat_at ts i)) (change h g)) { image = x }) i b a.here.calls r) (sym image) a.here.became.2;
   }
 
   pub did_end : (b : Block) (r : Settled) → Ends k b q (change ss ts) (change h g) r → DidEnd q b (desk_of h.pass ss sl now h.aside hs) (desk_of g.pass ts sl now g.aside g.ready.items) r
@@ -169,7 +172,8 @@ module _ (k : HallTerms) (q : PackageView) (ss ts : List SeatView) (sl : List (O
     seats = a.became.0;
     calls = a.calls;
     adds = a.answers.acts.adds;
-    ended = subst (λ (x : Shown). EndedAs (record (by_parts k q (change ss ts) (change h g)) { image = x }) b a.calls r) (sym image) a.became.1;
+    looks = a.became.1;
+    ended = subst (λ (x : Shown). EndedAs (record (by_parts k q (change ss ts) (change h g)) { image = x }) b a.calls r) (sym image) a.became.2;
   }
 
 pub settled_end : (x : End) (q : PackageView) (b : Block) (d e : DeskView) (r : Settled) → ends_thread x ≡ true → DidEnd q b d e r → SettledAs x q b d e r

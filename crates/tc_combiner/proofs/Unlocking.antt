@@ -10,6 +10,7 @@ use Rattle.std.specs.Prelude.{◌^◌, bit_or}
 use Rattle.tc_isa.specs.Sets.{with_lock}
 use Rattle.tc_combiner.proofs.Acting.{acts_beside, acts_then, at_after, takes_none, takes_then}
 use Rattle.tc_combiner.proofs.Answering.{back_answers, keeps_answers, then_answers, then_at, wider}
+use Rattle.tc_combiner.proofs.Looking.{looks_further}
 use Rattle.tc_combiner.proofs.Packages.{good_order, no_other, none_is, plain_gives, releases_uncut, ungranted_fits}
 use Rattle.tc_combiner.proofs.PassedOn.{few_followed, few_more, left_after}
 use Rattle.tc_combiner.proofs.Owning.{place_here, place_other, swap, without_first}
@@ -111,7 +112,7 @@ module _ (hall : HallView) (i : ℕ) (b : Block) (q p : PackageView) (s t : Seat
       let went : WentOn (with_package (without_lock i q) x) f.calls r = subst (λ (z : DeskStep SeatView). WentOn z f.calls r) same (went_at hall.terms p at_none (change s t) (change m g) f.calls r f.became) in record {
         calls = d.calls ++ f.calls;
         answers = then_answers hall.terms d.calls f.calls q p h m g r d.acted d.aside f.answers;
-        became = (d.asks, went_unlocks x i b d.calls f.calls r gone went);
+        became = (d.asks, looks_further 1 h.pass.knows m.pass.knows g.pass.knows (s ∷ []) (t ∷ []) d.looks f.answers.acts.adds.looks, went_unlocks x i b d.calls f.calls r gone went);
       }
 
   pub goes_home : (g : DeskParts) (r : Settled) → DidPass hall.terms i b (change q p) (change s t) (change h m) Went_home → Goes hall.terms p (change m g) r → Unlocks hall.terms i b q (change s t) (change h g) r
@@ -131,7 +132,7 @@ module _ (hall : HallView) (i : ℕ) (b : Block) (q p : PackageView) (s t : Seat
           readied = takes_then (threads hall.terms) h.ready.items m.ready.items g.ready.items d.calls f.calls d.acted.readied f.acted.readied;
           aside = f.aside;
         };
-        became = (d.asks, (d.calls, f.calls, refl, (d.state, d.taken.was, d.became), set, good));
+        became = (d.asks, looks_further 1 h.pass.knows m.pass.knows g.pass.knows (s ∷ []) (t ∷ []) d.looks f.acted.acts.adds.looks, (d.calls, f.calls, refl, (d.state, d.taken.was, d.became), set, good));
       }
 
   pub goes_stopped : (g : DeskParts) → DidPass hall.terms i b (change q p) (change s t) (change h m) Was_stopped → PutAllBack p (change m g) → Unlocks hall.terms i b q (change s t) (change h g) Did_stop
@@ -139,7 +140,7 @@ module _ (hall : HallView) (i : ℕ) (b : Block) (q p : PackageView) (s t : Seat
       let same : d.calls ++ back p m.aside ≡ d.calls ++ back (without_lock i q) h.aside = λ j. d.calls ++ back (d.taken.is j) (d.aside j) in record {
         calls = d.calls ++ back p m.aside;
         answers = then_answers hall.terms d.calls (back p m.aside) q p h m g Did_stop d.acted d.aside (back_answers hall.terms p m g a);
-        became = (d.asks, (d.calls, same, (d.state, d.taken.was, d.became), a.aside));
+        became = (d.asks, looks_further 1 h.pass.knows m.pass.knows g.pass.knows (s ∷ []) (t ∷ []) d.looks a.acts.adds.looks, (d.calls, same, (d.state, d.taken.was, d.became), a.aside));
       }
 
 -- ---- a package that goes on, or is set aside

@@ -26,4 +26,4 @@ pub use Rattle.tc_combiner.specs.Change.{Change, change}
 pub use Rattle.tc_combiner.specs.Steps.{DeskStep, at_lock, at_none, by_desk, by_parts, with_package}
 pub use Rattle.tc_combiner.specs.Ties.{EnterTie, LeaveTie, line_of}
 pub use Rattle.tc_combiner.specs.View.{AreSeats, BenchView, DeskView, FitsBench, HasSeats, IsSeatFor, desk_of, desk_with, no_seat, seat_at}
-pub use Rattle.tc_combiner.specs.Walks.{Acted, Acts, Adds, AreAsked, AskedTimes, Asks, HasSeenStop, HaveNoStop, IsAt, IsAtHall, IsTaken, LooksBetween, MayAct, MayBringHome, MayGive, Moves, Owned, Owns, Shows, TakesDown, Tried, TriedAs, WaitedAs, Waits, counts, packed, ready_in, saw, saw_if, unanswered}
+pub use Rattle.tc_combiner.specs.Walks.{Acted, Acts, Adds, AreAsked, AskedTimes, Asks, HasSeenStop, HaveNoStop, IsAt, IsAtHall, IsTaken, LooksAfterFirst, LooksBetween, LooksEachTime, MayAct, MayBringHome, MayGive, Moves, Owned, Owns, Shows, TakesDown, Tried, TriedAs, WaitedAs, Waits, counts, failed, looks_in, no_seats, one_seat, packed, ready_in, saw, saw_if, unanswered, unanswered_at}

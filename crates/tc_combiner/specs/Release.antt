@@ -2,7 +2,7 @@
 use Rattle.std.specs.Prelude.{◌⊎◌, ◌≡◌, ℕ, Bool, true, false, List, [], ◌∷◌, ◌++◌, ◌<◌, Some, None, is_some, ◌≢◌, ◌+◌, ◌≤◌, length}
 use Rattle.tc_combiner.specs.Vocabulary.{Adopted, Block, PassCall, Did_adopt, Did_stop, Done, Free, GoesOn, Granted, HallView, DeskParts, Has_ended, IsAtRest, IsTurn, Item, Kind, Knows, Leave, Left, LineCall, LockView, MAX_HELD, Next, Pack, PackageView, Passed, Ready, Releases, SeatView, Settled, Shown, Stopped, HallTerms, Turn, Was_adopted, Was_granted, Was_stopped, Went_home, bare, blocks_of, ends_thread, has, last_of, locked_in, locks, locks_of, may_adopt, number_in, put_call, run_of, threads, without_lock}
 use Rattle.tc_combiner.specs.Packages.{DidGrant, DidTakeOut, HasHeldAnd, IsGood, IsWaiter, Runs, HasNone}
-use Rattle.tc_combiner.specs.Walks.{Asks, Shows, Acted, MayAct}
+use Rattle.tc_combiner.specs.Walks.{Asks, LooksEachTime, Shows, Acted, MayAct, one_seat}
 use Rattle.tc_combiner.specs.Answers.{Does, WentOn, SetAside, back}
 use Rattle.tc_combiner.specs.Change.{Change, change}
 use Rattle.tc_combiner.specs.Steps.{DeskStep, at_lock, by_parts, with_package}
@@ -88,7 +88,8 @@ pub record DidGrantNext (k : HallTerms) (l : LockView) (b : Block) (u : Turn) (x
   pub aside : parts.new.aside ≡ parts.old.aside
   pub became : GrantedAs k.image.value l b u calls r
 
--- lock i came out of the package, with xs in hand besides; How: what became of it, with these calls and no others
+-- lock i came out of the package, with xs in hand besides; How: what became of it, with these calls and no others. The first question
+-- who stands behind needs no look at STOP, since `leave` follows where it is not answered
 pub record GaveUp (k : HallTerms) (i : ℕ) (q : Change PackageView) (xs : List Item) (seat : Change SeatView) (parts : Change DeskParts) (How : LockView → List PassCall → Type 0) : Type 0 where
   pub calls : List PassCall
   pub acted : Acted k calls (Pack q.old ∷ []) (Pack q.new ∷ xs) parts
@@ -96,6 +97,7 @@ pub record GaveUp (k : HallTerms) (i : ℕ) (q : Change PackageView) (xs : List 
   pub state : LockView
   pub taken : DidTakeOut i state q.old q.new
   pub asks : Asks (turn_of q.old i) seat.old seat.new
+  pub looks : LooksEachTime 1 parts.old.pass.knows parts.new.pass.knows (one_seat seat)
   pub became : How state calls
 
 -- so lock i, which the block b of the package released
@@ -116,7 +118,7 @@ UnlockedAs x i b cs r = ⊥
 
 -- what was done at the unlock
 abbrev pub Unlocks : HallTerms → ℕ → Block → PackageView → Change SeatView → Change DeskParts → Settled → Type 0
-Unlocks k i b q seat parts r = Does k q parts r (λ cs. Asks (turn_of q i) seat.old seat.new × UnlockedAs (by_parts k q seat parts) i b cs r)
+Unlocks k i b q seat parts r = Does k q parts r (λ cs. Asks (turn_of q i) seat.old seat.new × LooksEachTime 1 parts.old.pass.knows parts.new.pass.knows (one_seat seat) × UnlockedAs (by_parts k q seat parts) i b cs r)
 
 -- a seat of the same queue
 abbrev pub IsSameSeat : SeatView → SeatView → Type 0
@@ -191,6 +193,7 @@ pub record DidLeaveAll (k : HallTerms) (b : Block) (q : Change PackageView) (sea
   pub aside : parts.new.aside ≡ parts.old.aside
   pub emptied : IsEmptied q.old q.new
   pub seats_left : SeatsLeft b q.old seats.old seats.new
+  pub looks : LooksEachTime (length (locks_of b.held)) parts.old.pass.knows parts.new.pass.knows seats
   pub order : LeftInOrder (by_parts k q.old seats parts) b (locks_of b.held) calls false end
 
 -- what became in the step x of the package, whose thread ended with the block b, with these calls and no others: each of its
@@ -202,7 +205,7 @@ EndedAs x b cs r = ⊥
 
 -- what was done at the thread's end
 abbrev pub Ends : HallTerms → Block → PackageView → Change (List SeatView) → Change DeskParts → Settled → Type 0
-Ends k b q seats parts r = Does k q parts r (λ cs. SeatsLeft b q seats.old seats.new × EndedAs (by_parts k q seats parts) b cs r)
+Ends k b q seats parts r = Does k q parts r (λ cs. SeatsLeft b q seats.old seats.new × LooksEachTime (length (locks_of b.held)) parts.old.pass.knows parts.new.pass.knows seats × EndedAs (by_parts k q seats parts) b cs r)
 
 -- ---- in between
 
@@ -218,6 +221,9 @@ pub record Ending (k : HallTerms) (b : Block) (q : Change PackageView) (rest : �
   pub within : (j : ℕ) → has rest j ≡ true → has b.held j ≡ true
   pub left : (j : ℕ) → has rest j ≡ true → locked_in q.new j ≡ locked_in q.old j
   pub gone : (j : ℕ) → has rest j ≡ false → locked_in q.new j ≡ None
+  pub passed : ℕ
+  pub few : passed + length (locks_of rest) ≤ length (locks_of b.held)
+  pub looks : LooksEachTime passed parts.old.pass.knows parts.new.pass.knows seats
   pub count : length seats.new ≡ length seats.old
   pub others : (j : ℕ) → has b.held j ≡ false → seat_at seats.new j ≡ seat_at seats.old j
   pub wait : (j : ℕ) → has rest j ≡ true → seat_at seats.new j ≡ seat_at seats.old j

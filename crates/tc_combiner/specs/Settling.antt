@@ -1,10 +1,11 @@
 -- What `settle` asks of a package, and what becomes of it by the end of its last block.
 use Rattle.std.specs.Prelude.{◌≡◌, ◌≢◌, ℕ, ◌+◌, ◌-◌, ◌^◌, min, true, List, [], ◌∷◌, ◌++◌, length, slice_set, Some, None, is_some}
-use Rattle.tc_combiner.specs.Vocabulary.{AllowsPending, AreTogether, Block, PassCall, Cut, DidRun, Did_park, End, GoesOn, HandsPending, IsSamePass, Pack, PackageView, Parked, Settled, Shown, Slept, HallTerms, Unlocked, Wants, has, last_by, last_of, locked_in, put_call, threads, want_of}
+use Rattle.tc_combiner.specs.Vocabulary.{AllowsPending, AreTogether, Block, PassCall, Cut, DidRun, Did_park, End, GoesOn, HandsPending, IsSamePass, Pack, PackageView, Parked, Settled, Shown, Slept, HallTerms, Unlocked, Wants, has, last_by, last_of, locked_in, locks_of, put_call, threads, want_of}
 use Rattle.tc_combiner.specs.Packages.{HasOnlyHeld, IsAside, IsGoodFor}
-use Rattle.tc_combiner.specs.Walks.{Moves, Owned, packed, Asks, Acts, Adds}
+use Rattle.tc_combiner.specs.Walks.{Moves, Owned, packed, Asks, Acts, Adds, LooksEachTime}
 use Rattle.tc_combiner.specs.Answers.{AcquiredAs, HasReadied, carried}
 use Rattle.tc_combiner.specs.Release.{UnlockedAs, turn_of, AreSameSeats, EndedAs, SeatsLeft}
+use Rattle.tc_combiner.specs.Change.{change}
 use Rattle.tc_combiner.specs.Steps.{at_lock, by_desk}
 use Rattle.tc_combiner.specs.View.{BenchView, DeskView, FitsBench, seat_at}
 
@@ -80,19 +81,23 @@ pub record IsSameBut (i : ℕ) (d e : DeskView) : Type 0 where
   pub others : (j : ℕ) → j ≢ i → seat_at e.seats j ≡ seat_at d.seats j
   pub sleepers : e.sleepers ≡ d.sleepers
 
--- what became of the package q, which wants lock i: with these calls of the pass and no others, as in the records below
+-- what became of the package q, which wants lock i: with these calls of the pass and no others, as in the records below; for each try
+-- of the desk that failed there was a look at STOP
 pub record DidAcquire (i : ℕ) (q : PackageView) (d e : DeskView) (r : Settled) : Type 0 where
   pub same : IsSameBut i d e
   pub calls : List PassCall
   pub adds : Adds calls d.pass.knows e.pass.knows
+  pub looks : LooksEachTime 0 d.pass.knows e.pass.knows (change d.seats e.seats)
   pub acquired : AcquiredAs (at_lock i (by_desk q d e)) i calls r
 
--- of one whose block b unlocked lock i: the seat has asked for its turn alone
+-- of one whose block b unlocked lock i: the seat has asked for its turn alone; for each try that failed, but for the first question
+-- who stands behind, there was a look at STOP
 pub record DidUnlock (i : ℕ) (q : PackageView) (b : Block) (d e : DeskView) (r : Settled) : Type 0 where
   pub same : IsSameBut i d e
   pub asks : Asks (turn_of q i) (seat_at d.seats i) (seat_at e.seats i)
   pub calls : List PassCall
   pub adds : Adds calls d.pass.knows e.pass.knows
+  pub looks : LooksEachTime 1 d.pass.knows e.pass.knows (change d.seats e.seats)
   pub unlocked : UnlockedAs (at_lock i (by_desk q d e)) i b calls r
 
 -- of one that sleeps: it was put as Parked, and its thread is due so many blocks from now
@@ -102,12 +107,14 @@ pub record DidPark (q : PackageView) (d e : DeskView) : Type 0 where
   pub adds : Adds (put_call q Parked ∷ []) d.pass.knows e.pass.knows
   pub sleeper : e.sleepers ≡ slice_set d.sleepers q.context.thread (Some (min (d.now + q.slept) (2 ^ 64 - 1)))
 
--- of one whose thread ended with the block b: each seat of a lock of that block has asked for its turn alone
+-- of one whose thread ended with the block b: each seat of a lock of that block has asked for its turn alone; for
+-- each try that failed, but for the first question at each lock, there was a look at STOP
 pub record DidEnd (q : PackageView) (b : Block) (d e : DeskView) (r : Settled) : Type 0 where
   pub sleepers : e.sleepers ≡ d.sleepers
   pub seats : SeatsLeft b q d.seats e.seats
   pub calls : List PassCall
   pub adds : Adds calls d.pass.knows e.pass.knows
+  pub looks : LooksEachTime (length (locks_of b.held)) d.pass.knows e.pass.knows (change d.seats e.seats)
   pub ended : EndedAs (by_desk q d e) b calls r
 
 -- it goes on, and nothing was done

@@ -1,7 +1,7 @@
 -- What some calls of a pass and of a seat did: which calls, one by one, and how what is out changed; and what a desk may do.
 use Rattle.std.specs.Prelude.{◌≡◌, ◌+◌, ℕ, List, [], ◌∷◌, ◌++◌, Option, Some, None, ◌==◌, ◌<◌, ◌≤◌, Bool, true, false, All, length, filter}
 use Rattle.tc_combiner.specs.Vocabulary.{Asked, Attempt, PassCall, Called, Came, Found, HallView, DeskParts, IsAtRest, IsInOrder, IsInRange, IsOut, IsSamePass, IsTurn, Item, Knows, Leave, Left, LineCall, LockView, Loose, MAX_HELD, Miss, Next, Find_stopped, Next_asked, Next_is, Nobody, Nobody_asked, Outs, Pack, PackageView, PassView, Place, Put, Ready, Refused, EndsSection, SeatView, Stop, Stopped, HallTerms, Try_stopped, Turn, Unlinked, code_of, erase, fits_of, is_pinned, locks, outs, threads}
-use Rattle.tc_combiner.specs.Change.{Change}
+use Rattle.tc_combiner.specs.Change.{Change, change}
 use Rattle.tc_combiner.specs.Packages.{IsAside}
 
 -- no call of these is a stop
@@ -85,12 +85,39 @@ abbrev pub counts : PassCall → Bool
 counts (Stopped x) = x == 1
 counts c = true
 
--- these of the added calls count, in this order, and none is a stop; image, worker, sealed blocks and joined passes stay
+-- how many of these calls are looks at STOP
+abbrev pub looks_in : List PassCall → ℕ
+looks_in [] = 0
+looks_in (Stopped x ∷ cs) = looks_in cs + 1
+looks_in (c ∷ cs) = looks_in cs
+
+-- how many questions of these seats were not answered
+abbrev pub unanswered_at : List SeatView → ℕ
+unanswered_at [] = 0
+unanswered_at (s ∷ ss) = unanswered s.calls + unanswered_at ss
+
+-- how many tries failed: steps of the pass that were refused, and questions of these seats that were not answered
+abbrev pub failed : Knows → List SeatView → ℕ
+failed v ss = length v.missed + unanswered_at ss
+
+-- no more tries of the pass and of these seats failed than there were looks at STOP, but for so many
+abbrev pub LooksEachTime : ℕ → Knows → Knows → Change (List SeatView) → Type 0
+LooksEachTime but v w seats = failed w seats.new + looks_in v.calls ≤ failed v seats.old + looks_in w.calls + but
+
+abbrev pub no_seats : Change (List SeatView)
+no_seats = change [] []
+
+abbrev pub one_seat : Change SeatView → Change (List SeatView)
+one_seat seat = change (seat.old ∷ []) (seat.new ∷ [])
+
+-- these of the added calls count, in this order, and none is a stop; image, worker, sealed blocks and joined passes stay; for each
+-- step that was refused there was a look at STOP
 pub record Adds (ds : List PassCall) (v w : Knows) : Type 0 where
   pub calls : List PassCall
   pub told : Called calls v w
   pub stops : HaveNoStop calls
   pub are : filter counts calls ≡ ds
+  pub looks : LooksEachTime 0 v w no_seats
 
 -- the same pass added these calls; whoever had xs out, apart from anything else, has ys out
 pub record Acts (ds : List PassCall) (xs ys : List Item) (p q : PassView) : Type 0 where
@@ -110,18 +137,18 @@ abbrev pub saw_at_stop : Found → List PassCall
 saw_at_stop Find_stopped = saw
 saw_at_stop found = []
 
--- so many steps of the pass were refused, and it made so many calls
-pub record Tried (refused made : ℕ) (v w : Knows) : Type 0 where
+-- so many steps of the pass were refused, and it looked at STOP so many times
+pub record Tried (refused looked : ℕ) (v w : Knows) : Type 0 where
   pub misses : List Miss
   pub missed : w.missed ≡ v.missed ++ misses
   pub each : length misses ≡ refused
   pub calls : List PassCall
   pub added : w.calls ≡ v.calls ++ calls
-  pub all : length calls ≡ made
+  pub all : looks_in calls ≡ looked
 
--- one call was made after each step that was refused
-abbrev pub LooksEachTime : Knows → Knows → Type 0
-LooksEachTime v w = (n : ℕ) × Tried n n v w
+-- as many looks as steps that were refused
+abbrev pub OneLookEach : Knows → Knows → Type 0
+OneLookEach v w = (n : ℕ) × Tried n n v w
 
 -- what came of a try
 abbrev pub came_of : {A : Type 0} → Attempt A → Option A
@@ -147,14 +174,14 @@ IsTaken hall i p l = IsAtRest p.knows.image i l × MayBringHome hall p l
 
 -- tries until it came, with these items, or until the run was stopped
 abbrev pub WaitedAs : {A : Type 0} → (A → List Item) → (PassView → A → Type 0) → PassView → PassView → Option A → Type 0
-WaitedAs items is p q (Some a) = Acts [] [] (items a) p q × LooksEachTime p.knows q.knows × is q a
-WaitedAs items is p q None = Acts saw [] [] p q × LooksEachTime p.knows q.knows
+WaitedAs items is p q (Some a) = Acts [] [] (items a) p q × OneLookEach p.knows q.knows × is q a
+WaitedAs items is p q None = Acts saw [] [] p q × OneLookEach p.knows q.knows
 
 -- tries so far, none of which came
 abbrev pub Waits : PassView → PassView → Type 0
-Waits p q = Acts [] [] [] p q × LooksEachTime p.knows q.knows
+Waits p q = Acts [] [] [] p q × OneLookEach p.knows q.knows
 
--- after the first question each that was not answered was followed by one call
+-- after the first question each that was not answered was followed by one look
 abbrev pub LooksAfterFirst : Turn → SeatView → SeatView → Knows → Knows → Type 0
 LooksAfterFirst u s t v w = (n m : ℕ) × AskedTimes n u s t × Tried 0 m v w × (m ≤ n) × (n ≤ m + 1)
 

@@ -8,8 +8,10 @@
 //!
 //! The layer above is promised, for any order of waiters and any number of held locks: for each
 //! answer the calls of the pass that led to it, in order and no others but looks at the stop that
-//! saw none; what the seats show; which package the desk has in hand afterwards, fit for its worker;
-//! and that nothing else that was out changed.
+//! saw none; that it looked at the stop no less often than its tries failed (`LooksEachTime`), but
+//! for the first question at a released lock, behind which it leaves the line; what the seats show;
+//! which package the desk has in hand afterwards, fit for its worker; and that nothing else that was
+//! out changed.
 //!
 //! - `specs/View.antt`: desks and benches as contracts see them, and when a desk fits a bench.
 //!   `specs/Change.antt`: what was before and what is after. `specs/Steps.antt`: one step at a desk,

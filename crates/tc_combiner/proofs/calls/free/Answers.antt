@@ -1,5 +1,5 @@
 use Rattle.std.proofs.Common.{[], ◌∷◌, ap, if◌then◌else◌, refl, Some, None}
-use Rattle.tc_combiner.proofs.Vocabulary.{Free, Loose, kept}
+use Rattle.tc_combiner.proofs.Vocabulary.{Free, Knows, Loose, kept}
 use Rattle.tc_hall.proofs.Outs.{is_there}
 use Rattle.tc_combiner.proofs.Acting.{acts_told}
 use Rattle.tc_combiner.proofs.Owning.{moves_in}
@@ -13,4 +13,4 @@ free-requires-clause-ready c = record {
 }
 
 pub returns : goal.returns
-returns c = acts_told (Free c.args.lock.number ∷ []) (Free c.args.lock.number ∷ []) _ [] c.args.pass.now c.free.new.pass refl tt c.free.ensures.own c.free.ensures.freed.called (moves_in c.args.pass.now.knows c.free.new.pass.knows (Loose c.args.lock) c.free.ensures.freed.rest)
+returns c = acts_told (Free c.args.lock.number ∷ []) (Free c.args.lock.number ∷ []) _ [] c.args.pass.now c.free.new.pass refl tt c.free.ensures.own c.free.ensures.freed.called (moves_in c.args.pass.now.knows c.free.new.pass.knows (Loose c.args.lock) c.free.ensures.freed.rest) (ap (λ (w : Knows). w.missed) c.free.ensures.freed.now)

@@ -1,5 +1,5 @@
 use Rattle.std.proofs.Common.{[], ◌∷◌, ap, if◌then◌else◌, refl, Some, None}
-use Rattle.tc_combiner.proofs.Vocabulary.{Pack, bare, keep, kept, put_call}
+use Rattle.tc_combiner.proofs.Vocabulary.{Knows, Pack, bare, keep, kept, put_call}
 use Rattle.tc_hall.proofs.Outs.{is_there}
 use Rattle.tc_combiner.proofs.Acting.{acts_told}
 use Rattle.tc_combiner.proofs.Owning.{moves_in}
@@ -16,4 +16,4 @@ put-requires-clause-ready c = record {
 }
 
 pub returns : goal.returns
-returns c = acts_told (put_call c.args.«package» c.args.place ∷ []) (put_call c.args.«package» c.args.place ∷ []) _ [] c.args.pass.now c.put.new.pass refl tt c.put.ensures.own c.put.ensures.put.called (moves_in c.args.pass.now.knows c.put.new.pass.knows (Pack c.args.«package») c.put.ensures.put.rest)
+returns c = acts_told (put_call c.args.«package» c.args.place ∷ []) (put_call c.args.«package» c.args.place ∷ []) _ [] c.args.pass.now c.put.new.pass refl tt c.put.ensures.own c.put.ensures.put.called (moves_in c.args.pass.now.knows c.put.new.pass.knows (Pack c.args.«package») c.put.ensures.put.rest) (ap (λ (w : Knows). w.missed) c.put.ensures.put.now)
