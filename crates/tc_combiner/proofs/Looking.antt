@@ -1,6 +1,6 @@
 -- Tries that failed, and looks at STOP.
-use Rattle.std.proofs.Common.{◌≡◌, ◌≢◌, ◌≤◌, ◌+◌, ℕ, zero, suc, List, [], ◌∷◌, ◌++◌, length, length-append, refl, sym, ap, ◌∙◌, subst, arith, None}
-use Rattle.tc_combiner.proofs.Vocabulary.{AcquiredAs, AtSeat, Behind, DeskStep, Did_stop, Enter, First, GoesOn, Knows, LineCall, Link, LooksAfterFirst, LooksEachTime, Miss, Next, PassCall, SeatView, Settled, Shipped, Stopped, Tried, Turn, change, failed, looks_in, next_turn, no_seat, no_seats, one_seat, seat_at, unanswered, unanswered_at, with_line}
+use Rattle.std.proofs.Common.{◌≡◌, ◌≢◌, ◌≤◌, ◌+◌, ℕ, zero, suc, List, [], ◌∷◌, ◌++◌, length, length-append, refl, ap, ◌∙◌, arith, None}
+use Rattle.tc_combiner.proofs.Vocabulary.{AcquiredAs, AtSeat, Behind, DeskStep, Did_stop, Enter, First, GoesOn, Knows, LineCall, Link, LooksAfterFirst, LooksEachTime, Next, PassCall, SeatView, Settled, Shipped, Stopped, Tried, Turn, change, failed, looks_in, next_turn, no_seats, one_seat, seat_at, unanswered, unanswered_at, with_line}
 
 pub looks_then : (cs ds : List PassCall) → looks_in (cs ++ ds) ≡ looks_in cs + looks_in ds
 looks_then [] ds = omega arith

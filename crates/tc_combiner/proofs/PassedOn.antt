@@ -205,7 +205,8 @@ passes k i b l own u q p s t h m g r d a e f same asks looks shown y = record {
 }
 
 -- the lock came out, and went home
-pub frees : (k : HallTerms) (es : List PassCall) (i : ℕ) (l : LockView) (own : Turn) (q p : PackageView) (s t : SeatView) (h g : DeskParts) (m : PassView) (How : Turn → LockView → List PassCall → Type 0) → DidTakeOut i l q p → own ≡ turn_of q i → Asks own s t → LooksEachTime 1 h.pass.knows m.knows (one_seat (change s t)) → Acts es [] [] h.pass m → Acts (Free l.number ∷ []) (Loose l ∷ []) [] m g.pass
+pub frees : (k : HallTerms) (es : List PassCall) (i : ℕ) (l : LockView) (own : Turn) (q p : PackageView) (s t : SeatView) (h g : DeskParts) (m : PassView) (How : Turn → LockView → List PassCall → Type 0)
+    → DidTakeOut i l q p → own ≡ turn_of q i → Asks own s t → LooksEachTime 1 h.pass.knows m.knows (one_seat (change s t)) → Acts es [] [] h.pass m → Acts (Free l.number ∷ []) (Loose l ∷ []) [] m g.pass
     → g.ready.items ≡ h.ready.items → g.aside ≡ h.aside → ready_in (es ++ Free l.number ∷ []) ≡ [] → How own l (es ++ Free l.number ∷ []) → GaveUp k i (change q p) [] (change s t) (change h g) (How (turn_of q i))
 frees k es i l own q p s t h g m How d same asks looks a f e n none how = record {
   calls = es ++ Free l.number ∷ [];

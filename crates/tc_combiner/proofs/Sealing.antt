@@ -1,7 +1,5 @@
 -- A package whose block is sealed, and what is out then.
-use Rattle.std.proofs.Common.{◌≡◌, ℕ, zero, suc, ◌==◌, Bool, true, false, if◌then◌else◌, List, [], ◌∷◌, get_or, refl, sym, ap, ◌∙◌, subst, Option, Some, None, is_some}
-use mathlib.Core.Option.{some, some-injective, some-ne-none}
-use lib.ListN.{get_elem?}
+use Rattle.std.proofs.Common.{◌≡◌, ℕ, ◌==◌, Bool, true, false, if◌then◌else◌, [], ◌∷◌, refl, sym, ap, ◌∙◌, subst, Option, Some, None, is_some}
 use Rattle.tc_combiner.proofs.Vocabulary.{DeskView, DidRun, DidSeal, Has, IsOut, Knows, LockView, MayCommit, Moves, Outs, Owns, Pack, PackageView, Seals, Shown, bare, erase, keep, kept, locked_in, outs, unless, with_seal}
 use Rattle.tc_hall.proofs.Outs.{is_there, same_outs}
 use Rattle.tc_lemmas.proofs.Tests.{eq_self}

@@ -1,5 +1,5 @@
 -- What the end of a package's last block says of the package.
-use Rattle.std.proofs.Common.{◌≡◌, ◌≢◌, ◌<◌, ◌≤◌, ◌+◌, ℕ, Bool, true, false, not, ◌&&◌, ◌||◌, ◌==◌, if◌then◌else◌, List, [], ◌∷◌, length, refl, sym, ap, ◌∙◌, subst, arith, Option, Some, None, is_some}
+use Rattle.std.proofs.Common.{◌≡◌, ◌≢◌, ◌<◌, ◌≤◌, ◌+◌, ℕ, Bool, true, false, not, ◌&&◌, ◌||◌, ◌==◌, if◌then◌else◌, List, [], length, refl, sym, ap, ◌∙◌, subst, arith, Option, Some, None, is_some}
 use Rattle.tc_combiner.proofs.Vocabulary.{AcquiredAs, Acquires, Answers, AreSameSeats, AtSeat, Block, PassCall, Cut, DeskView, DidAcquire, DidEnd, DidUnlock, End, EndedAs, Ends, HallView, DeskParts, HasBlock, HasOnlyHeld, HasReadied, IsAfter, IsAfterBlock, IsAtHall, IsGood, IsPlain, IsSoundPackage, Item, KeepsParts, Knows, LockView, MAX_HELD, MayAct, MayAsk, MayEnd, MayPark, MayRelease}
 use Rattle.tc_combiner.proofs.Vocabulary.{MaySettle, MayUnlock, PackageView, Sleeping, Runs, SeatView, Settled, SettledAs, Shown, Slept, HallTerms, Unlocked, UnlockedAs, Unlocks, WantIsLawful, Wants, Wants_lock, by_parts, change, desk_of, desk_with, ends_section, ends_thread, has, is_cut, last_of, locked_in, locks, nat_tests, next_lock, seat_at, thread_in, threads, was_cut}
 use Rattle.tc_combiner.proofs.Looking.{looks_at, looks_entered, none_asked}
@@ -17,10 +17,6 @@ after_last image worker end this b q is m e =
     let last : Some m.0 ≡ Some b = sym m.1.last ∙ e in
     let same : m.0 ≡ b = cc in
     subst (λ (x : End). IsAfterBlock image worker x b q) is (subst (λ (x : Block). IsAfterBlock image worker end x q) same m.1)
-
-pub some_block : (bs : List Block) (b : Block) → last_of bs ≡ Some b → 0 < length bs
-some_block [] b e = let n : ⊥ = cc in absurd n
-some_block (x ∷ bs) b e = omega arith
 
 pub after_of : (image : Shown) (worker : ℕ) (end : End) (b : Block) (q : PackageView) → IsSoundPackage q → IsAfterBlock image worker end b q → IsAfter q.image q.context b
 after_of image worker end b q s m = left_after q.image q b s.left m.last

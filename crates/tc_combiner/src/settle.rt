@@ -1,14 +1,11 @@
 //! What `settle` does, by the end of the block, over the parts of a desk.
 
-ghost use Rattle.std.specs.Prelude.{◌≡◌, ◌<◌, ◌≤◌, ◌∷◌, Some, length, map};
-ghost use Rattle.tc_isa.specs.declared.limits.TheConstants.{MAX_HELD};
-ghost use Rattle.tc_journal.specs.Batch.{last_of};
-ghost use Rattle.tc_journal.specs.declared.block.Block.{Block};
+ghost use Rattle.std.specs.Prelude.{◌≤◌, ◌∷◌, length, map};
 ghost use Rattle.tc_hall.specs.Outs.{Pack};
 ghost use Rattle.tc_hall.specs.Rule.{threads};
 ghost use Rattle.tc_combiner.specs.Walks.{packed, IsAtHall, MayAct};
 ghost use Rattle.tc_combiner.specs.Answers.{Acquires, MayAsk};
-ghost use Rattle.tc_combiner.specs.Release.{AtSeat, Ends, MayEnd, MayUnlock, Unlocks};
+ghost use Rattle.tc_combiner.specs.Release.{AtSeat, MayUnlock, Unlocks};
 ghost use Rattle.tc_combiner.specs.Change.{change};
 ghost use Rattle.tc_combiner.specs.View.{desk_with, HasSeats};
 ghost use Rattle.tc_combiner.specs.Settling.{HasSettled, KeepsParts, MaySettle};
@@ -69,50 +66,6 @@ fn unlocked_at<R: Wait, Q: Waiters>(
     unlocked_with(rt, shared.hall, parts, queue, seat, package, released)
 }
 
-/// What `settle` does where the last block released this lock.
-fn unlocked_last<R: Wait, Q: Waiters>(
-    rt: &R,
-    shared: &Shared<'_, Q>,
-    parts: &mut DeskParts,
-    seats: &mut [Q::Seat],
-    package: Package,
-    lock: u32,
-) -> Settled
-    requires parts { MayAct shared.now.hall.now (Pack «package» ∷ packed parts.old.aside) 2 parts.old }
-    requires some { 0 < length «package».log }
-    requires may { (block : Block) → last_of «package».log ≡ Some block
-        → MayUnlock shared.now.hall.now.terms parts.old.pass.knows lock block «package» }
-    requires seats { HasSeats Q.queue Q.seen shared.now.hall.now.terms shared.now.queues.now seats.old }
-    ensures { (block : Block) → last_of «package».log ≡ Some block
-        → AtSeat lock (map Q.seen seats.old) (map Q.seen seats.new)
-        (λ s t. Unlocks shared.now.hall.now.terms lock block «package»
-        (change s t) (change parts.old parts.new) result) }
-{
-    let block = &package.last();
-    unlocked_at(rt, shared, parts, seats, package, Released { lock, block })
-}
-
-/// What `settle` does where the last block ended the thread.
-fn ended_last<R: Wait, Q: Waiters>(
-    rt: &R,
-    shared: &Shared<'_, Q>,
-    parts: &mut DeskParts,
-    seats: &mut [Q::Seat],
-    package: Package,
-) -> Settled
-    requires parts { MayAct shared.now.hall.now (Pack «package» ∷ packed parts.old.aside) MAX_HELD parts.old }
-    requires some { 0 < length «package».log }
-    requires may { (block : Block) → last_of «package».log ≡ Some block
-        → MayEnd shared.now.hall.now.terms parts.old.pass.knows block «package» }
-    requires seats { HasSeats Q.queue Q.seen shared.now.hall.now.terms shared.now.queues.now seats.old }
-    ensures { (block : Block) → last_of «package».log ≡ Some block
-        → Ends shared.now.hall.now.terms block «package»
-        (change (map Q.seen seats.old) (map Q.seen seats.new)) (change parts.old parts.new) result }
-{
-    let block = package.last();
-    ended_with(rt, shared, parts, seats, package, &block)
-}
-
 /// What `settle` does, over the parts of a desk.
 pub(crate) fn settle_with<R: Wait, Q: Waiters>(
     rt: &R,
@@ -138,13 +91,19 @@ pub(crate) fn settle_with<R: Wait, Q: Waiters>(
     package.keeps();
     match end {
         End::Wants(lock) => acquire_at(rt, shared, parts, seats, package, lock),
-        End::Unlocked(lock) => unlocked_last(rt, shared, parts, seats, package, lock),
+        End::Unlocked(lock) => {
+            let block = &package.last();
+            unlocked_at(rt, shared, parts, seats, package, Released { lock, block })
+        }
         End::Slept => {
             park(shared.hall, parts, sleeping, package);
             Settled::Parked
         }
         End::Cut => Settled::GoesOn(package),
         // An exit, a fault, or spent fuel.
-        _ => ended_last(rt, shared, parts, seats, package),
+        _ => {
+            let block = package.last();
+            ended_with(rt, shared, parts, seats, package, &block)
+        }
     }
 }

@@ -19,4 +19,5 @@ returns c =
     λ s.
     let x = by_parts c.args.hall.now.terms c.args.«package».now (change s s) (change c.args.parts.now c.args.parts.now) in
     frees c.args.hall.now.terms [] c.args.released.lock c.take_out-state.result (turn_of c.args.«package».now c.args.released.lock) c.args.«package».now c.take_out-state.new.self s s c.args.parts.now _ c.args.parts.now.pass
-    (λ (u : Turn) (l : LockView) (cs : List PassCall). LeftAs x l c.args.released.block.now u cs true true) d refl (asked_none (turn_of c.args.«package».now c.args.released.lock) s).0 (looks_within 0 1 c.args.parts.now.pass.knows c.args.parts.now.pass.knows (s ∷ []) (s ∷ []) (omega arith) (looks_none c.args.parts.now.pass.knows (s ∷ []))) (acts_none c.args.parts.now.pass []) c.free.ensures refl refl refl (refl, refl)
+    (λ (u : Turn) (l : LockView) (cs : List PassCall). LeftAs x l c.args.released.block.now u cs true true) d refl (asked_none (turn_of c.args.«package».now c.args.released.lock) s).0
+    (looks_within 0 1 c.args.parts.now.pass.knows c.args.parts.now.pass.knows (s ∷ []) (s ∷ []) (omega arith) (looks_none c.args.parts.now.pass.knows (s ∷ []))) (acts_none c.args.parts.now.pass []) c.free.ensures refl refl refl (refl, refl)

@@ -2,15 +2,9 @@ use Rattle.std.proofs.Common.{ℕ, List, [], ◌∷◌, refl, sym, ap, ◌∙◌
 use Rattle.tc_combiner.proofs.Vocabulary.{DeskView, DidNothing, DidPark, Did_park, End, GoesOn, DeskParts, IsGood, Pack, Sleeping, SettledAs, Shown, desk_of, desk_with, packed, threads}
 use Rattle.tc_combiner.proofs.Acting.{acts_none, takes_none}
 use Rattle.tc_combiner.proofs.Ending.{same_seats, seats_first}
-use Rattle.tc_combiner.proofs.Settling.{after_last, did_acquire, did_end, did_unlock, ended, keeps_of, may_ask, may_begin, may_continue, may_end, may_park, may_unlock, settled_end, some_block}
+use Rattle.tc_combiner.proofs.Settling.{after_last, did_acquire, did_end, did_unlock, ended, keeps_of, may_ask, may_begin, may_continue, may_end, may_park, may_unlock, settled_end}
 use Rattle.tc_combiner.proofs.Answering.{keeps_answers}
 use Rattle.tc_combiner.proofs.settle.settle_with.Goals as goal
-
-pub unlocked_last-requires-clause-some : goal.unlocked_last-requires-clause-some
-unlocked_last-requires-clause-some g c = λ κs b. some_block c.args.«package».log c.requires.may.0 c.requires.may.1.last
-
-pub ended_last-requires-clause-some : goal.ended_last-requires-clause-some
-ended_last-requires-clause-some g c = λ κs b. some_block c.args.«package».log c.requires.may.0 c.requires.may.1.last
 
 pub acquire_at-requires-clause-may : goal.acquire_at-requires-clause-may
 acquire_at-requires-clause-may g c = λ κs b.
@@ -28,26 +22,25 @@ returns-in-Wants-clause-settled g c =
 pub returns-in-Wants-clause-keeps : goal.returns-in-Wants-clause-keeps
 returns-in-Wants-clause-keeps g c = keeps_of c.args.shared.now.hall.now.terms _ c.args.«package» _ _ c.args.sleeping.now c.args.sleeping.now _ c.acquire_at.new.parts _ c.acquire_at.result c.clear.ensures c.acquire_at.ensures.here.answers c.acquire_at.ensures.same refl refl
 
-pub unlocked_last-requires-clause-parts : goal.unlocked_last-requires-clause-parts
-unlocked_last-requires-clause-parts g c = λ κs b. may_begin c.args.shared.now.hall.now _ 2 _ c.requires.parts c.clear.ensures (omega arith)
+pub unlocked_at-requires-clause-parts : goal.unlocked_at-requires-clause-parts
+unlocked_at-requires-clause-parts g c = λ κs b. may_begin c.args.shared.now.hall.now _ 2 _ c.requires.parts c.clear.ensures (omega arith)
 
-pub unlocked_last-requires-clause-may : goal.unlocked_last-requires-clause-may
-unlocked_last-requires-clause-may g c = λ κs b block is.
-    let after = after_last c.args.shared.now.hall.now.terms.image.value c.args.parts.now.pass.knows.worker c.args.end _ block c.args.«package» c.in-Unlocked.is c.requires.may is in
+pub unlocked_at-requires-clause-may : goal.unlocked_at-requires-clause-may
+unlocked_at-requires-clause-may g c = λ κs b.
+    let block = c.last.result in
+    let after = after_last c.args.shared.now.hall.now.terms.image.value c.args.parts.now.pass.knows.worker c.args.end _ block c.args.«package» c.in-Unlocked.is c.requires.may c.last.ensures in
     may_unlock c.args.shared.now.hall.now.terms c.args.parts.now.pass.knows.worker block c.args.«package» c.keeps.ensures.sound c.args.parts.now.pass.knows c.in-Unlocked.lock c.requires.parts.image refl after
 
 pub returns-in-Unlocked-clause-settled : goal.returns-in-Unlocked-clause-settled
 returns-in-Unlocked-clause-settled g c =
     let before = desk_with c.args.parts.now (map g.Q.Waiters.seen c.args.seats.now) c.args.sleeping.now in
-    let after = desk_with c.unlocked_last.new.parts (map g.Q.Waiters.seen c.unlocked_last.new.seats) c.args.sleeping.now in
-    let unlocks = c.unlocked_last.ensures c.requires.may.0 c.requires.may.1.last in
-    let did = did_unlock c.args.shared.now.hall.now.terms c.args.«package» _ _ c.args.sleeping.now.sleepers c.args.sleeping.now.clock c.args.parts.now.ready.items _ c.unlocked_last.new.parts c.requires.parts.image c.in-Unlocked.lock c.requires.may.0 c.unlocked_last.result unlocks in
-    (c.requires.may.0, c.requires.may.1.last, subst (λ (x : End). SettledAs x c.args.«package» c.requires.may.0 before after c.unlocked_last.result) (sym c.in-Unlocked.is) did)
+    let after = desk_with c.unlocked_at.new.parts (map g.Q.Waiters.seen c.unlocked_at.new.seats) c.args.sleeping.now in
+    let did = did_unlock c.args.shared.now.hall.now.terms c.args.«package» _ _ c.args.sleeping.now.sleepers c.args.sleeping.now.clock c.args.parts.now.ready.items _ c.unlocked_at.new.parts c.requires.parts.image c.in-Unlocked.lock c.last.result c.unlocked_at.result c.unlocked_at.ensures in
+    (c.last.result, c.last.ensures, subst (λ (x : End). SettledAs x c.args.«package» c.last.result before after c.unlocked_at.result) (sym c.in-Unlocked.is) did)
 
 pub returns-in-Unlocked-clause-keeps : goal.returns-in-Unlocked-clause-keeps
 returns-in-Unlocked-clause-keeps g c =
-    let unlocks = c.unlocked_last.ensures c.requires.may.0 c.requires.may.1.last in
-    keeps_of c.args.shared.now.hall.now.terms _ c.args.«package» _ _ c.args.sleeping.now c.args.sleeping.now _ c.unlocked_last.new.parts _ c.unlocked_last.result c.clear.ensures unlocks.here.answers unlocks.same refl refl
+    keeps_of c.args.shared.now.hall.now.terms _ c.args.«package» _ _ c.args.sleeping.now c.args.sleeping.now _ c.unlocked_at.new.parts _ c.unlocked_at.result c.clear.ensures c.unlocked_at.ensures.here.answers c.unlocked_at.ensures.same refl refl
 
 pub park-requires-clause-may : goal.park-requires-clause-may
 park-requires-clause-may g c =
@@ -85,24 +78,24 @@ returns-in-Cut-clause-keeps g c =
     let answers = keeps_answers c.args.shared.now.hall.now [] c.args.«package» h h (GoesOn c.args.«package») c.requires.parts still none refl in
     keeps_of c.args.shared.now.hall.now.terms [] c.args.«package» _ _ c.args.sleeping.now c.args.sleeping.now h h _ (GoesOn c.args.«package») c.clear.ensures answers (seats_first (map g.Q.Waiters.seen c.args.seats.now)) refl refl
 
-pub ended_last-requires-clause-parts : goal.ended_last-requires-clause-parts
-ended_last-requires-clause-parts g c = λ κs b. may_begin c.args.shared.now.hall.now _ _ _ c.requires.parts c.clear.ensures (omega arith)
+pub ended_with-requires-clause-parts : goal.ended_with-requires-clause-parts
+ended_with-requires-clause-parts g c = λ κs b. may_begin c.args.shared.now.hall.now _ _ _ c.requires.parts c.clear.ensures (omega arith)
 
-pub ended_last-requires-clause-may : goal.ended_last-requires-clause-may
-ended_last-requires-clause-may g c = λ κs b block is.
-    let after = after_last c.args.shared.now.hall.now.terms.image.value c.args.parts.now.pass.knows.worker c.args.end _ block c.args.«package» refl c.requires.may is in
+pub ended_with-requires-clause-may : goal.ended_with-requires-clause-may
+ended_with-requires-clause-may g c = λ κs b.
+    let block = c.last-block.result in
+    let after = after_last c.args.shared.now.hall.now.terms.image.value c.args.parts.now.pass.knows.worker c.args.end _ block c.args.«package» refl c.requires.may c.last-block.ensures in
     may_end c.args.shared.now.hall.now.terms c.args.parts.now.pass.knows.worker _ block c.args.«package» c.keeps.ensures.sound after c.args.parts.now.pass.knows c.requires.parts.image refl
     (ended c.args.end c.in_default.not-Wants c.in_default.not-Unlocked c.in_default.not-Slept c.in_default.not-Cut)
 
 pub returns-in_default-clause-settled : goal.returns-in_default-clause-settled
 returns-in_default-clause-settled g c =
-    let block = c.requires.may.0 in
+    let block = c.last-block.result in
     let ends = ended c.args.end c.in_default.not-Wants c.in_default.not-Unlocked c.in_default.not-Slept c.in_default.not-Cut in
-    let did = did_end c.args.shared.now.hall.now.terms c.args.«package» _ _ c.args.sleeping.now.sleepers c.args.sleeping.now.clock c.args.parts.now.ready.items _ c.ended_last.new.parts c.requires.parts.image block c.ended_last.result (c.ended_last.ensures block c.requires.may.1.last) in
-    (block, c.requires.may.1.last, settled_end c.args.end c.args.«package» block _ _ c.ended_last.result ends did)
+    let did = did_end c.args.shared.now.hall.now.terms c.args.«package» _ _ c.args.sleeping.now.sleepers c.args.sleeping.now.clock c.args.parts.now.ready.items _ c.ended_with.new.parts c.requires.parts.image block c.ended_with.result c.ended_with.ensures in
+    (block, c.last-block.ensures, settled_end c.args.end c.args.«package» block _ _ c.ended_with.result ends did)
 
 pub returns-in_default-clause-keeps : goal.returns-in_default-clause-keeps
 returns-in_default-clause-keeps g c =
-    let ends = c.ended_last.ensures c.requires.may.0 c.requires.may.1.last in
-    let same = same_seats c.requires.may.0 c.args.«package» (map g.Q.Waiters.seen c.args.seats.now) (map g.Q.Waiters.seen c.ended_last.new.seats) ends.became.0 in
-    keeps_of c.args.shared.now.hall.now.terms _ c.args.«package» _ _ c.args.sleeping.now c.args.sleeping.now _ c.ended_last.new.parts _ c.ended_last.result c.clear.ensures ends.answers same refl refl
+    let same = same_seats c.last-block.result c.args.«package» (map g.Q.Waiters.seen c.args.seats.now) (map g.Q.Waiters.seen c.ended_with.new.seats) c.ended_with.ensures.became.0 in
+    keeps_of c.args.shared.now.hall.now.terms _ c.args.«package» _ _ c.args.sleeping.now c.args.sleeping.now _ c.ended_with.new.parts _ c.ended_with.result c.clear.ensures c.ended_with.ensures.answers same refl refl
