@@ -15,7 +15,7 @@ use Rattle.tc_replay.proofs.Telling.{run_accepted}
 use Rattle.tc_replay.proofs.Wrong.{one_rejection, never_both}
 use Rattle.tc_main.specs.Words.{AskFor, AskForNothing, AskToRead, Input, Reads, file_and_history, history_asked, input_of, whole_file}
 use Rattle.tc_main.specs.Replayed.{HasHistory, HasRun, IsRejection}
-use Rattle.tc_main.specs.Top.{Accepts, CanBeDone, Ends, HasInput, HasRead, IsRefused, IsRejectedFor, IsTextOf, IsWanted, MustRefuse, ReadsAll, RefusesBytes, Rejects}
+use Rattle.tc_main.specs.Top.{Accepts, CanBeDone, Ends, FailsToRead, HasInput, HasRead, IsRefused, IsRejectedFor, IsTextOf, IsWanted, MustRefuse, ReadsAll, RefusesBytes, Rejects}
 use Rattle.tc_main.specs.declared.status.Status.{Status}
 use Rattle.tc_main.specs.declared.status.Status.TheVariants.{Done, Usage, ReadFault, Refused, WriteFault, OutOfMemory, Rejected}
 use Rattle.tc_main.specs.declared.words.Command.{Command}
@@ -142,6 +142,10 @@ module _ (words : List (List ℕ)) (before now had has : Stream) (input : Input)
   something : AskForNothing words → ⊥
   something nothing = nothing asks.asked asks.asks
 
+  -- where a read failed, the faults rose
+  risen_by : FailsToRead words before now → Rose before now
+  risen_by fails = omega (arith, fails.2.fault.next)
+
   -- a text was made of all bytes
   made_of : (text : List ℕ) → IsWanted words before now text → (length bytes ≤ input.most) × (input.least ≤ length bytes) × (refusal (input.file bytes) ≡ None)
   made_of text wanted =
@@ -180,7 +184,7 @@ module _ (words : List (List ℕ)) (before now had has : Stream) (input : Input)
   pub does : length bytes ≤ input.most → input.least ≤ length bytes → refusal (input.file bytes) ≡ None → Accepts (history_asked asks.asked) bytes → ¬ Rose before now → ¬ Rose had has → (s : Status) → Ends words before now had has s → (s ≡ Done) ⊎ (s ≡ OutOfMemory)
   does few enough fine accepted reads writes Done h = inl refl
   does few enough fine accepted reads writes Usage h = absurd (something h.0)
-  does few enough fine accepted reads writes ReadFault h = absurd (reads h.1)
+  does few enough fine accepted reads writes ReadFault h = absurd (reads (risen_by h.0))
   does few enough fine accepted reads writes (Refused k) h = absurd (not_refused k h.2.0 few enough fine (same_refused h.0 k h.2.0 h.1 h.2.1))
   does few enough fine accepted reads writes WriteFault h = absurd (writes (omega (arith, h.2.fault.next)))
   does few enough fine accepted reads writes OutOfMemory h = inr refl
@@ -212,7 +216,7 @@ module _ (words : List (List ℕ)) (before now had has : Stream) (input : Input)
   refuses_bytes : (k : ℕ) → RefusesBytes input bytes k → ¬ Rose before now → (s : Status) → Ends words before now had has s → (s ≡ Refused k) ⊎ (s ≡ OutOfMemory)
   refuses_bytes k bad reads Done h = absurd (no_text k h.0 bad h.1)
   refuses_bytes k bad reads Usage h = absurd (something h.0)
-  refuses_bytes k bad reads ReadFault h = absurd (reads h.1)
+  refuses_bytes k bad reads ReadFault h = absurd (reads (risen_by h.0))
   refuses_bytes k bad reads (Refused j) h = inl (ap Refused (same_number k j h.2.0 bad (same_refused h.0 j h.2.0 h.1 h.2.1)))
   refuses_bytes k bad reads WriteFault h = absurd (no_text k h.0 bad h.1)
   refuses_bytes k bad reads OutOfMemory h = inr refl
@@ -222,7 +226,7 @@ module _ (words : List (List ℕ)) (before now had has : Stream) (input : Input)
   rejects_bytes : (r : Rejection) → length bytes ≤ input.most → Rejects (history_asked asks.asked) bytes r → ¬ Rose before now → (s : Status) → Ends words before now had has s → (s ≡ Rejected r) ⊎ (s ≡ OutOfMemory)
   rejects_bytes r few bad reads Done h = absurd (never_both_asked (history_asked asks.asked) bytes r (accepted_of h.0 h.1) bad)
   rejects_bytes r few bad reads Usage h = absurd (something h.0)
-  rejects_bytes r few bad reads ReadFault h = absurd (reads h.1)
+  rejects_bytes r few bad reads ReadFault h = absurd (reads (risen_by h.0))
   rejects_bytes r few bad reads (Refused k) h =
       absurd (let needs = rejection_needs asks.asked input bytes r asks.input_is bad in not_refused k h.2.0 few needs.0 needs.1 (same_refused h.0 k h.2.0 h.1 h.2.1))
   rejects_bytes r few bad reads WriteFault h = absurd (never_both_asked (history_asked asks.asked) bytes r (accepted_of h.0 h.1) bad)
@@ -242,7 +246,7 @@ only_usage words before now had has nothing (Rejected r) h = absurd (nothing h.0
 does_alone : (words : List (List ℕ)) (before now had has : Stream) → ¬ Reads words → ¬ AskForNothing words → ¬ Rose had has → (s : Status) → Ends words before now had has s → (s ≡ Done) ⊎ (s ≡ OutOfMemory)
 does_alone words before now had has other something writes Done h = inl refl
 does_alone words before now had has other something writes Usage h = absurd (something h.0)
-does_alone words before now had has other something writes ReadFault h = absurd (other h.0)
+does_alone words before now had has other something writes ReadFault h = absurd (other (h.0.0, h.0.1))
 does_alone words before now had has other something writes (Refused k) h = absurd (other (h.0, h.1))
 does_alone words before now had has other something writes WriteFault h = absurd (writes (omega (arith, h.2.fault.next)))
 does_alone words before now had has other something writes OutOfMemory h = inr refl

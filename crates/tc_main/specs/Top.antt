@@ -2,7 +2,7 @@
 use Rattle.std.specs.Prelude.{◌≡◌, ◌≢◌, ℕ, ◌+◌, ◌<◌, ◌≤◌, ◌⊎◌, List, [], ◌∷◌, ◌++◌, length, Option, None, Some, codes, decimal}
 use Rattle.tc_io.specs.Causes.{Rose}
 use Rattle.tc_io.specs.Stream.{Stream}
-use Rattle.tc_io.specs.Taken.{FailsAmid, Gives, TakesAll, TakesCount}
+use Rattle.tc_io.specs.Taken.{FailsAmid, FailsWithin, Gives, TakesAll, TakesAtMost, TakesCount}
 use Rattle.tc_isa.specs.declared.options.Options.{Options}
 use Rattle.tc_elf.specs.Loading.{refusal, subset}
 use Rattle.tc_elf.specs.Refused.{refusal_number, refusal_name}
@@ -18,7 +18,7 @@ use Rattle.tc_main.specs.Replayed.{HasRun, IsRejection}
 use Rattle.tc_report.specs.Report.{report_text}
 use Rattle.tc_report.specs.Results.{Results}
 use Rattle.tc_report.specs.Summary.{summary_text}
-use Rattle.tc_main.specs.Words.{Input, AskFor, AskForNothing, AskToRead, Reads, history_asked, input_of}
+use Rattle.tc_main.specs.Words.{Input, AskFor, AskForNothing, AskToRead, history_asked, input_of}
 use Rattle.tc_main.specs.declared.status.Status.{Status}
 use Rattle.tc_main.specs.declared.status.Status.TheVariants.{Done, Usage, ReadFault, Refused, WriteFault, OutOfMemory, Rejected}
 use Rattle.tc_main.specs.declared.words.Command.{Command}
@@ -50,6 +50,15 @@ ReadsTooMany input before now = TakesCount before now (input.most + 1)
 abbrev pub HasRead : Option Input → Stream → Stream → List ℕ → Type 0
 HasRead None before now bytes = (now ≡ before) × (bytes ≡ [])
 HasRead (Some input) before now bytes = ReadsAll input before now bytes
+
+-- the words ask for something that is read, and a read failed, behind no more bytes than the input may have
+abbrev pub FailsToRead : List (List ℕ) → Stream → Stream → Type 0
+FailsToRead words before now = (input : Input) × AskToRead words input × FailsWithin before now input.most
+
+-- where the words ask for something that is read, no read failed, and no more was read than the input may have and a byte
+-- behind it
+abbrev pub ReadsNoFurther : List (List ℕ) → Stream → Stream → Type 0
+ReadsNoFurther words before now = (input : Input) → AskToRead words input → TakesAtMost before now (input.most + 1)
 
 -- ---- refusals
 
@@ -204,7 +213,7 @@ WritesNothing had has = Gives had has []
 abbrev pub Comes : List (List ℕ) → Stream → Stream → (List ℕ → Type 0) → Status → Type 0
 Comes words before now P Done = (text : List ℕ) × IsWanted words before now text × P text
 Comes words before now P Usage = AskForNothing words × (now ≡ before) × P usage_line
-Comes words before now P ReadFault = Reads words × Rose before now × P []
+Comes words before now P ReadFault = FailsToRead words before now × P []
 Comes words before now P (Refused k) =
     (input : Input) × AskToRead words input × ((name : List ℕ) × IsRefused input before now k name × P (refused_line k name))
 Comes words before now P WriteFault = ⊥
@@ -218,5 +227,5 @@ Ends words before now had has Usage = Comes words before now (Writes had has) Us
 Ends words before now had has ReadFault = Comes words before now (Gives had has) ReadFault
 Ends words before now had has (Refused k) = Comes words before now (Writes had has) (Refused k)
 Ends words before now had has WriteFault = Comes words before now (FailsAmid had has) Done
-Ends words before now had has OutOfMemory = WritesNothing had has
+Ends words before now had has OutOfMemory = ReadsNoFurther words before now × WritesNothing had has
 Ends words before now had has (Rejected r) = Comes words before now (Writes had has) (Rejected r)

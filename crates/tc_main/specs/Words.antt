@@ -8,7 +8,6 @@ use Rattle.tc_main.specs.Orders.{IsOrderFor}
 use Rattle.tc_main.specs.declared.order.Order.TheVariants.{Entry, Nodes}
 use Rattle.tc_main.specs.declared.words.Command.{Command}
 use Rattle.tc_main.specs.declared.words.Command.TheVariants.{Run, Generate, Demo, Replay, Profile}
-use Rattle.tc_main.specs.declared.words.TheConstants.{MAX_HISTORY}
 
 -- ---- the forms
 
@@ -53,9 +52,9 @@ pub record Input : Type 0 where
 abbrev pub whole_file : Input
 whole_file = record { most = MAX_FILE; least = 0; file = λ bytes. bytes }
 
--- a guest's file of so many bytes, and the text of a history behind it
+-- a guest's file of so many bytes, and the text of a history behind it, of 256 MiB at most
 abbrev pub file_and_history : ℕ → Input
-file_and_history size = record { most = size + MAX_HISTORY; least = size; file = take size }
+file_and_history size = record { most = size + 268435456; least = size; file = take size }
 
 -- what is read for what is asked; nothing is read for a guest that the program makes
 abbrev pub input_of : Command → Option Input

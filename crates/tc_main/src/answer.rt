@@ -1,8 +1,9 @@
 //! What the words and the source come to: a status, and the text that goes with it, which is written.
 
-ghost use Rattle.std.specs.Prelude.{◌≡◌, ℕ, List, IfOk, IfErr, None, OnErr, option_map};
+ghost use Rattle.std.specs.Prelude.{◌≡◌, ℕ, ◌+◌, List, IfOk, IfErr, None, OnErr, Some, option_map};
+ghost use Rattle.tc_io.specs.Taken.{TakesAtMost};
 ghost use Rattle.tc_main.specs.Wrong.{IsWrong};
-ghost use Rattle.tc_main.specs.Top.{Comes, IsTextOf, Verdict, refused_line, rejected_line, usage_line};
+ghost use Rattle.tc_main.specs.Top.{Comes, IsTextOf, ReadsNoFurther, Verdict, refused_line, rejected_line, usage_line};
 ghost use Rattle.tc_report.specs.Written.{Wrote};
 ghost use Rattle.tc_main.specs.Words.{AskFor, FitsInput, Input, IsWithinLimits, Reads, input_of};
 ghost use Rattle.tc_main.specs.declared.status.Status.TheVariants.{Refused, Rejected as IsRejected};
@@ -184,6 +185,8 @@ fn answer_asked<R: Threads + Wait + Sync, S: Source, G: Gate, K: Sink>(
         → IfOk result (λ a. Comes words (S.stream source.old) (S.stream source.new)
         (λ text. Wrote (K.stream sink.old) (K.stream sink.new) text a.written) a.status) }
     ensures unread { input_of asked ≡ None → S.stream source.new ≡ S.stream source.old }
+    ensures further { OnErr result ((input : Input) → input_of asked ≡ Some input
+        → TakesAtMost (S.stream source.old) (S.stream source.new) (input.most + 1)) }
     ensures memory { OnErr result (K.stream sink.new ≡ K.stream sink.old) }
 {
     let Some(most) = most_of(asked) else {
@@ -213,6 +216,8 @@ pub(crate) fn answer_words<R: Threads + Wait + Sync, S: Source, G: Gate, K: Sink
         (S.stream source.old) (S.stream source.new)
         (λ text. Wrote (K.stream sink.old) (K.stream sink.new) text a.written) a.status) }
     ensures unread { ¬ Reads words.now → S.stream source.new ≡ S.stream source.old }
+    ensures further { OnErr result (ReadsNoFurther words.now
+        (S.stream source.old) (S.stream source.new)) }
     ensures memory { OnErr result (K.stream sink.new ≡ K.stream sink.old) }
 {
     match asked_of(words) {

@@ -1,15 +1,18 @@
 //! The program as a library: from the words of the command line and the bytes of a guest file to
 //! the printed report.
 //!
-//! `top::tclocks` does all that the program does. Its contract promises to whoever runs it that a
-//! report is written only of a legal run of the guest that the source had, and a summary only of one
-//! of the generator's guest, and says of every other status why it comes and what was written. Which
-//! runs are legal is one word of the contract, `IsLegalRun`; the texts do not depend on it.
+//! `top::tclocks` does all that the program does. Its contract promises to whoever runs it that the
+//! report of a run is written only of a legal run of the guest that the source had, a summary only of
+//! one of the generator's guest, and the report or the profile of a history only of one that tells a
+//! complete run; and it says of every other status why it comes and what was written. Which runs are
+//! legal is one word of the contract, `IsLegalRun`, and which histories are replayed another,
+//! `IsCompleteRun`, which asks less: the texts do not depend on them.
 //!
 //! - `words`: what the words of the command line ask for. `order`: in which order the waiters of a
 //!   lock are served. `run`: a run by workers, from the image to the report. `nodes`: a run by workers
-//!   that belong to nodes. `demo`: a run of the generator's guest, to the summary. `answer`: what the
-//!   words and the source come to.
+//!   that belong to nodes. `demo`: a run of the generator's guest, to the summary. `replay`: a finished
+//!   history, to its report or its profile. `wrong`: why there is no text. `answer`: what the words and
+//!   the source come to.
 //! - `build`, `generate`: files of guests, of tc_build. `options`: with what a guest is run, of tc_isa.
 //!   `gate`: whom its workers tell how far they are, of tc_workers. `report`, `summary`: the texts of
 //!   a report and of a summary, of tc_report.

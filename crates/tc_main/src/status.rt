@@ -25,6 +25,13 @@ pub enum Status {
     Rejected(Rejected),
 }
 
+/// The exit status of the program that ends so.
+pub fn exit_of(status: Status) -> u8
+    ensures { result ≡ status_number status }
+{
+    status.number() as u8
+}
+
 impl Status {
     /// The exit status of the program, from 0 to 6.
     pub fn number(self) -> u32

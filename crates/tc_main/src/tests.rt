@@ -3,7 +3,7 @@
 ghost use Rattle.std.specs.Prelude.{◌≤◌, length};
 
 use crate::run::{WholeRun, run_whole};
-use crate::status::Status;
+use crate::status::{Status, exit_of};
 use std::alloc::Global;
 use std::sync::Wait;
 use std::test::Fail;
@@ -127,5 +127,6 @@ fn each_status_has_its_number(rt: HostRuntime) {
         (Status::Rejected(REJECTED), 6),
     ] {
         assert_eq!(rt; status.number(), number, "{status:?}");
+        assert_eq!(rt; u32::from(exit_of(status)), number, "{status:?}");
     }
 }

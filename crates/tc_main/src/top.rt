@@ -5,9 +5,9 @@ ghost use Rattle.tc_io.specs.Causes.{Rose};
 ghost use Rattle.tc_io.specs.Stream.{Stream};
 ghost use Rattle.tc_io.specs.Taken.{FailsAmid, Gives};
 ghost use Rattle.tc_main.specs.Words.{AskForNothing, AskToRead, Input, Reads};
-ghost use Rattle.tc_main.specs.Top.{CanBeDone, Comes, Ends, IsRefused, IsRejectedFor, IsWanted};
+ghost use Rattle.tc_main.specs.Top.{CanBeDone, Comes, Ends, FailsToRead, IsRefused, IsRejectedFor, IsWanted};
 ghost use Rattle.tc_report.specs.Written.{Wrote};
-ghost use Rattle.tc_main.specs.Top.{MustRefuse, Writes, WritesNothing};
+ghost use Rattle.tc_main.specs.Top.{MustRefuse, ReadsNoFurther, Writes, WritesNothing};
 ghost use Rattle.tc_main.specs.Top.{refused_line, rejected_line, usage_line};
 ghost use Rattle.tc_replay.specs.declared.reason.Rejected.{Rejected as AnyRejected};
 ghost use Rattle.tc_main.specs.declared.status.Status.{Status as Answered};
@@ -76,29 +76,33 @@ pub fn tclocks<R: Threads + Wait + Sync, S: Source, K: Sink, G: Gate>(
     sink: &mut K,
     gate: &G,
 ) -> Status
-    // What was asked for is done, and was written: the report of a legal run of the source's guest,
-    // the file of the generator's guest, or the summary of a legal run of that guest.
+    // What was asked for is done, and was written whole: the report of a legal run of the source's
+    // guest, the file of the generator's guest, the summary of a legal run of that guest, or the report
+    // or the profile of a history that the source had, which tells a complete run.
     ensures done { result ≡ Status.Done → (text : List ℕ)
         × IsWanted words.now (S.stream source.old) (S.stream source.new) text
         × Gives (K.stream sink.old) (K.stream sink.new) text }
 
-    // Nothing was asked for, so nothing was read; and the usage line was written.
+    // Nothing was asked for, so nothing was read; and the usage line was written, or a front of it
+    // before a write failed.
     ensures usage { result ≡ Status.Usage → AskForNothing words.now
         × (S.stream source.new ≡ S.stream source.old)
         × Writes (K.stream sink.old) (K.stream sink.new) usage_line }
 
-    // A read failed in this call, and nothing was written.
-    ensures read { result ≡ Status.ReadFault → Reads words.now
-        × Rose (S.stream source.old) (S.stream source.new)
+    // A read failed in this call, before more was read than may be, and nothing was written.
+    ensures read { result ≡ Status.ReadFault
+        → FailsToRead words.now (S.stream source.old) (S.stream source.new)
         × WritesNothing (K.stream sink.old) (K.stream sink.new) }
 
-    // What was read was refused, no read failed, and the line that says why was written.
+    // What was read was refused, no read failed, and the line that says why was written, or a front of
+    // it before a write failed.
     ensures refused { (k : ℕ) → result ≡ Status.Refused k → (input : Input)
         × AskToRead words.now input × ((name : List ℕ)
         × IsRefused input (S.stream source.old) (S.stream source.new) k name
         × Writes (K.stream sink.old) (K.stream sink.new) (refused_line k name)) }
 
-    // A history was rejected, no read failed, and the line that says where and why was written.
+    // A history was rejected, no read failed, and the line that says where and why was written, or a
+    // front of it before a write failed.
     ensures rejected { (r : AnyRejected) → result ≡ Status.Rejected r
         → IsRejectedFor words.now (S.stream source.old) (S.stream source.new) r
         × Writes (K.stream sink.old) (K.stream sink.new) (rejected_line r) }
@@ -108,9 +112,11 @@ pub fn tclocks<R: Threads + Wait + Sync, S: Source, K: Sink, G: Gate>(
         × IsWanted words.now (S.stream source.old) (S.stream source.new) text
         × FailsAmid (K.stream sink.old) (K.stream sink.new) text }
 
-    // Nothing was written.
+    // Memory was wanting: no read failed, no more was read than what tells that there is too much, and
+    // nothing was written.
     ensures memory { result ≡ Status.OutOfMemory
-        → WritesNothing (K.stream sink.old) (K.stream sink.new) }
+        → ReadsNoFurther words.now (S.stream source.old) (S.stream source.new)
+        × WritesNothing (K.stream sink.old) (K.stream sink.new) }
 
     // Where what is asked for needs nothing of the source, nothing is read.
     ensures unread { ¬ Reads words.now → S.stream source.new ≡ S.stream source.old }

@@ -4,12 +4,15 @@ ghost use Rattle.std.specs.Prelude.{◌≡◌, ◌+◌, ◌*◌, ◌<◌, ◌≤
 ghost use Rattle.tc_journal.specs.Digits.{hex2, hex8};
 ghost use Rattle.tc_report.specs.Legal.{results_after};
 ghost use Rattle.tc_report.specs.Outcome.{IsOutcome};
+ghost use Rattle.tc_io.specs.Calls.{Writes};
 ghost use Rattle.tc_report.specs.Pieces.{lines_of};
 ghost use Rattle.tc_report.specs.Report as text;
 ghost use Rattle.tc_report.specs.Written.{Wrote};
+ghost use Rattle.tc_report.specs.declared.piece.TheConstants.{BLOCKS as PIECE};
 
+use crate::piece::BLOCKS;
 use crate::write::write_around;
-use crate::written::Written;
+use crate::written::{Written, write_text};
 use std::alloc::{AllocError, Global};
 use std::fmt::Write;
 use std::marker::Brand;
@@ -313,7 +316,9 @@ pub fn report_with(
 
 /// Writes the report that has this text behind its history, until a write fails. All memory for it is
 /// taken before any of it is written, and what the lines of the history take does not grow with the
-/// history. It may wait, for the threads that make the lines; as many as there were workers work at it.
+/// history. The report of a history of one piece is one text. A longer one is written in parts, each as
+/// a text of its own: the lines before the history, each piece, and the lines behind it. It may wait,
+/// for the threads that make the lines; as many as there were workers work at it.
 pub fn write_report<R: Threads + Wait + Sync, K: Sink>(
     rt: &R,
     alloc: Global,
@@ -325,8 +330,15 @@ pub fn write_report<R: Threads + Wait + Sync, K: Sink>(
 ) -> Result<Written, AllocError>
     ensures wrote { IfOk result (λ written. Wrote (K.stream sink.old) (K.stream sink.new)
         (text.head_text image.now options ++ lines_of history.now ++ tail.now) written) }
+    ensures once { length history.now ≤ PIECE → IfOk result (λ written. Writes K.write_gives
+        (text.head_text image.now options ++ lines_of history.now ++ tail.now)
+        sink.old written sink.new) }
     ensures memory { OnErr result (K.stream sink.new ≡ K.stream sink.old) }
 {
+    if history.len() <= BLOCKS {
+        let text = report_with(alloc, image, options, history, tail)?;
+        return Ok(write_text(sink, &text));
+    }
     let mut head = String::with_capacity(alloc, HEAD_ROOM)?;
     push_head(&mut head, image, options)?;
     let workers = options.workers as usize;

@@ -1,6 +1,7 @@
 //! Sources and sinks that give and take few bytes in a call, and fail in one of their calls.
 
 use crate::guests::{SMALLEST, SMALLEST_REPORT};
+use crate::histories::EXITS;
 use crate::outside::USAGE;
 use crate::ran::{CALM, Outside, run_with};
 use std::alloc::{AllocError, Global};
@@ -52,60 +53,19 @@ fn a_source_may_fail_in_each_call(rt: HostRuntime) -> Result<(), Fail> {
     Ok(())
 }
 
-/// What is written for some words and a file, and with which status, also where a write fails. The
-/// text is written in parts of these lengths, one behind the other: a report in the lines before its
-/// history, those of the history and those behind it.
+/// What is written for some words and what the source has, and with which status, also where a write
+/// fails.
 #[derive(Clone, Copy)]
 struct Text<'a> {
     words: &'a [&'a [u8]],
     file: &'a [u8],
-    text: &'a str,
-    parts: &'a [usize],
+    text: &'a [u8],
     whole: Status,
     cut: Status,
 }
 
-/// A report, the usage line and a refusal.
-const TEXTS: [Text<'static>; 3] = [
-    Text {
-        words: &RUN,
-        file: &SMALLEST,
-        text: SMALLEST_REPORT,
-        parts: &[66, 73, 340],
-        whole: Status::Done,
-        cut: Status::WriteFault,
-    },
-    Text {
-        words: &[b"stop"],
-        file: &SMALLEST,
-        text: USAGE,
-        parts: &[USAGE.len()],
-        whole: Status::Usage,
-        cut: Status::Usage,
-    },
-    Text {
-        words: &[b"run", b"1", b"1", b"0"],
-        file: &[],
-        text: "refused 1 TooShort\n",
-        parts: &[19],
-        whole: Status::Refused(1),
-        cut: Status::Refused(1),
-    },
-];
-
-/// How many bytes a sink has taken of these parts in so many calls, where it takes pieces of this size.
-fn taken_in(parts: &[usize], most: usize, calls: usize) -> usize {
-    let mut left = calls;
-    let mut taken: usize = 0;
-    for part in parts {
-        taken = taken.saturating_add(left.saturating_mul(most).min(*part));
-        left = left.saturating_sub(part.div_ceil(most.max(1)));
-    }
-    taken
-}
-
-/// A sink takes a text in pieces, and fails in this call, where it comes to it: it has the pieces
-/// before.
+/// A sink takes a text in pieces of this size, and fails in this call, where it comes to it: it has as
+/// many pieces as calls came before.
 fn check_sink<R: Threads + Wait + Sync + Abort>(
     rt: &R,
     alloc: Global,
@@ -119,8 +79,8 @@ fn check_sink<R: Threads + Wait + Sync + Abort>(
         ..CALM
     };
     let ran = run_with(rt, alloc, case.words, case.file, &outside)?;
-    let text = case.text.as_bytes();
-    let taken = taken_in(case.parts, most, call).min(text.len());
+    let text = case.text;
+    let taken = call.saturating_mul(most).min(text.len());
     let status = if taken < text.len() {
         case.cut
     } else {
@@ -143,7 +103,7 @@ fn check_sinks<R: Threads + Wait + Sync + Abort>(
     most: usize,
 ) -> Result<(), AllocError> {
     let calls = case.text.len().div_ceil(most.max(1));
-    for call in 0..=calls.saturating_add(case.parts.len()) {
+    for call in 0..=calls.saturating_add(1) {
         check_sink(rt, alloc, case, most, call)?;
     }
     Ok(())
@@ -153,7 +113,30 @@ fn check_sinks<R: Threads + Wait + Sync + Abort>(
 /// a refusal are still the answer to their words.
 #[test]
 fn a_sink_may_fail_in_each_call(rt: HostRuntime) -> Result<(), Fail> {
-    for case in &TEXTS {
+    let texts = [
+        Text {
+            words: &RUN,
+            file: &SMALLEST,
+            text: SMALLEST_REPORT.as_bytes(),
+            whole: Status::Done,
+            cut: Status::WriteFault,
+        },
+        Text {
+            words: &[b"stop"],
+            file: &SMALLEST,
+            text: USAGE.as_bytes(),
+            whole: Status::Usage,
+            cut: Status::Usage,
+        },
+        Text {
+            words: &[b"run", b"1", b"1", b"0"],
+            file: &[],
+            text: b"refused 1 TooShort\n",
+            whole: Status::Refused(1),
+            cut: Status::Refused(1),
+        },
+    ];
+    for case in &texts {
         for most in PIECES {
             check_sinks(&rt, rt.alloc(), case, most)?;
         }
@@ -180,6 +163,48 @@ fn faults_are_told_for_each_number_of_workers(rt: HostRuntime) -> Result<(), Fai
         let ran = run_with(&rt, rt.alloc(), &words, &SMALLEST, &failing)?;
         assert_eq!(rt; ran.status, Status::WriteFault);
         assert_eq!(rt; ran.written.as_slice(), b"tclocks 2\nguest ".as_slice());
+    }
+    Ok(())
+}
+
+/// The text of these words has so many bytes. Where a sink takes 16 bytes a call and fails in call k, it
+/// has the first 16 k of them.
+fn check_form<R: Threads + Wait + Sync + Abort>(
+    rt: &R,
+    alloc: Global,
+    words: &[&[u8]],
+    file: &[u8],
+    size: usize,
+) -> Result<(), AllocError> {
+    let ran = run_with(rt, alloc, words, file, &CALM)?;
+    assert_eq!(rt; ran.status, Status::Done);
+    assert_eq!(rt; ran.written.len(), size);
+    let case = Text {
+        words,
+        file,
+        text: &ran.written,
+        whole: Status::Done,
+        cut: Status::WriteFault,
+    };
+    check_sinks(rt, alloc, &case, 16)
+}
+
+/// The text of each form is written by one call of `write_all`, which gives the sink all that is left.
+#[test]
+fn each_form_is_written_as_one_text(rt: HostRuntime) -> Result<(), Fail> {
+    let alloc = rt.alloc();
+    let mut history = Vec::from_slice(alloc, &SMALLEST)?;
+    history.extend_from_slice(EXITS.as_bytes())?;
+    let forms: [(&[&[u8]], &[u8], usize); 6] = [
+        (&RUN, &SMALLEST, 479),
+        (&[b"nodes", b"1", b"0", b"1", b"100", b"0"], &SMALLEST, 479),
+        (&[b"replay", b"92", b"1", b"100", b"0"], &history, 479),
+        (&[b"profile", b"92", b"1", b"100", b"0"], &history, 56),
+        (&[b"gen", b"1"], &[], 524),
+        (&[b"demo", b"1", b"1"], &[], 469),
+    ];
+    for (words, file, size) in forms {
+        check_form(&rt, alloc, words, file, size)?;
     }
     Ok(())
 }

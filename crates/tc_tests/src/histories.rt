@@ -2,7 +2,7 @@
 
 use crate::guests::{
     ADD, DATA, ECALL, EXIT, LOCK_0, LOCK_1, SMALLEST, SMALLEST_REPORT, UNLOCK_0, UNLOCK_1, built,
-    joined,
+    counting, joined,
 };
 use crate::ran::{CALM, Outside, Ran, run_with};
 use std::alloc::{AllocError, Global};
@@ -13,7 +13,8 @@ use std::thread::Threads;
 use tc_main::status::Status;
 
 /// The only history of the smallest guest, with fuel 100.
-const EXITS: &str = "block 0 thread 0 turns 2 held - kind start worker 0 pc 00010054 end exit\n";
+pub(crate) const EXITS: &str =
+    "block 0 thread 0 turns 2 held - kind start worker 0 pc 00010054 end exit\n";
 
 /// A history of two threads that add to a word, in which worker 0 adopts a section of the second.
 const ADOPTS: &str = "\
@@ -229,5 +230,69 @@ fn a_rejection_keeps_its_status_where_a_write_fails(rt: HostRuntime) -> Result<(
     let ran = ask(&rt, rt.alloc(), words, &SMALLEST, "", &outside)?;
     assert_eq!(rt; ran.status.number(), 6);
     assert_eq!(rt; ran.text(), "reje");
+    Ok(())
+}
+
+/// The lines of the blocks of a report.
+fn history_in(alloc: Global, report: &str) -> Result<String, AllocError> {
+    let mut history = String::new(alloc);
+    for line in report.lines() {
+        if line.starts_with("block ") {
+            write!(history, "{line}\n")?;
+        }
+    }
+    Ok(history)
+}
+
+/// How many of the blocks have this kind.
+fn count_of(history: &str, kind: &str) -> usize {
+    let lines = history.lines();
+    lines.filter(|line| line.contains(kind)).count()
+}
+
+/// The history of a run of so many workers is given back: its replay is the report of the run, and its
+/// profile counts its sections.
+fn check_given_back<R: Threads + Wait + Sync + Abort>(
+    rt: &R,
+    alloc: Global,
+    workers: &str,
+) -> Result<(), AllocError> {
+    let outside = Outside {
+        room: 524_288,
+        ..CALM
+    };
+    let file = counting(rt, alloc, 4)?;
+    let words = [b"run".as_slice(), workers.as_bytes(), b"2000", b"8"];
+    let ran = run_with(rt, alloc, &words, &file, &outside)?;
+    assert_eq!(rt; ran.status, Status::Done);
+    assert_eq!(rt; ran.blocks(), 804);
+    let history = history_in(alloc, ran.text())?;
+    let size = file.len();
+    let size = format!(in alloc; "{size}")?;
+    let words = ["replay", size.as_str(), workers, "2000", "8"];
+    let again = ask(rt, alloc, words, &file, &history, &outside)?;
+    assert_eq!(rt; again.status, Status::Done);
+    assert!(rt; again.text() == ran.text(), "{workers} workers");
+    let words = ["profile", size.as_str(), workers, "2000", "8"];
+    let profile = ask(rt, alloc, words, &file, &history, &outside)?;
+    let taken = count_of(&history, " kind taken ");
+    let adopted = count_of(&history, " kind adopted ");
+    let granted = count_of(&history, " kind granted ");
+    let sections = format!(in alloc;
+        "\nlock 0 sections 400 taken {taken} adopted {adopted} granted {granted} "
+    )?;
+    assert!(rt; profile.text().contains(sections.as_str()), "{sections}");
+    let threads = profile.text().lines();
+    let threads = threads.filter(|line| line.contains(" blocks 201 turns 1104 "));
+    assert_eq!(rt; threads.count(), 4);
+    Ok(())
+}
+
+/// A finished history of more than 400 blocks, by one worker and by four.
+#[test]
+fn the_history_of_a_run_is_given_back(rt: HostRuntime) -> Result<(), Fail> {
+    for workers in ["1", "4"] {
+        check_given_back(&rt, rt.alloc(), workers)?;
+    }
     Ok(())
 }

@@ -1,8 +1,9 @@
 //! Runs to which memory is refused in their middle. A gate takes all memory that there is, in pieces
 //! to which nobody writes, so that the host has to give next to none of it.
 
-use crate::guests::{ADD, DATA, ECALL, LOCK_0, UNLOCK_0, built, joined};
-use crate::ran::{CALM, run_at};
+use crate::guests::{ADD, DATA, ECALL, LOCK_0, SMALLEST, SMALLEST_REPORT, UNLOCK_0, built, joined};
+use crate::histories::EXITS;
+use crate::ran::{CALM, run_at, run_with};
 use std::alloc::{AllocError, Global};
 use std::process::Abort;
 use std::sync::atomic::{AtomicU32, Ordering};
@@ -125,5 +126,24 @@ fn refused_memory_ends_a_run(rt: HostRuntime) -> Result<(), Fail> {
         assert!(rt; ran.written.is_empty());
         assert!(rt; gate.blocks.load(Ordering::SeqCst) > PLENTY);
     }
+    Ok(())
+}
+
+/// What is read takes memory as it comes: where there is no piece of 64 MiB, a short history is replayed
+/// all the same, though one of 256 MiB might have come.
+#[test]
+fn a_short_input_takes_little_memory(rt: HostRuntime) -> Result<(), Fail> {
+    let alloc = rt.alloc();
+    let mut bytes = Vec::from_slice(alloc, &SMALLEST)?;
+    bytes.extend_from_slice(EXITS.as_bytes())?;
+    let mut pieces = Vec::with_capacity(alloc, MOST_PIECES)?;
+    for size in &SIZES[..10] {
+        take_pieces(alloc, &mut pieces, *size);
+    }
+    assert!(rt; Vec::<u8>::with_capacity(alloc, 0x0400_0000).is_err());
+    let words = [b"replay".as_slice(), b"92", b"1", b"100", b"0"];
+    let ran = run_with(&rt, alloc, &words, &bytes, &CALM)?;
+    assert_eq!(rt; ran.status, Status::Done);
+    assert_eq!(rt; ran.text(), SMALLEST_REPORT);
     Ok(())
 }

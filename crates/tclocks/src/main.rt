@@ -11,7 +11,7 @@ use std::io::ErrorKind;
 use std::process::ExitCode;
 use tc_io::{StdSink, StdSource, Word};
 use tc_main::gate::Open;
-use tc_main::status::Status;
+use tc_main::status::{Status, exit_of};
 use tc_main::top::tclocks;
 
 /// The words after the program's name.
@@ -38,5 +38,5 @@ fn main(rt: HostRuntime) -> ExitCode {
         Ok(words) => tclocks(&rt, alloc, &words, &mut source, &mut sink, &Open),
         Err(_) => Status::OutOfMemory,
     };
-    ExitCode::from(status.number() as u8)
+    ExitCode::from(exit_of(status))
 }

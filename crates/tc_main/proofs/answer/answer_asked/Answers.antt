@@ -1,9 +1,9 @@
 use Rattle.std.proofs.Common.{◌≡◌, ℕ, ◌+◌, List, Option, None, inl, inr, refl, sym, subst, ap, ◌∙◌, arith}
 use Rattle.std.specs.Prelude.{codes, Err}
 use Rattle.std.proofs.lemmas.Option.{none-some}
-use Rattle.std.proofs.lemmas.Result.{IfOk-weaker}
+use Rattle.std.proofs.lemmas.Result.{IfOk-weaker, on_err_weaker}
 use Rattle.tc_io.specs.Stream.{Stream}
-use Rattle.tc_io.specs.Taken.{TakesCount}
+use Rattle.tc_io.specs.Taken.{FailsWithin, TakesCount}
 use Rattle.tc_main.specs.Words.{AskFor, Input, input_of}
 use Rattle.tc_main.specs.Top.{Comes, HasRead, ReadsAll, ReadsTooMany, Verdict}
 use Rattle.tc_report.specs.Written.{Wrote}
@@ -52,8 +52,10 @@ returns-in-Ok-clause-answer g c = λ words asks.
 pub returns-in-Err-Fault-clause-answer : goal.returns-in-Err-Fault-clause-answer
 returns-in-Err-Fault-clause-answer g c = λ words asks.
     let for = read_for c.args.asked c.in-Some.most (sym c.in-Some.is ∙ c.most_of.ensures) in
+    let before = g.S.Source.stream c.args.source.now in
+    let now = g.S.Source.stream c.read_all.new.source in
     let fails = c.in-Err-Fault.ensures.fault (ap Err c.in-Err-Fault.field-0-is) in
-    ((for.input, record { asked = c.args.asked; asks = asks; input_is = for.is }), omega (arith, fails.fault.next), c.write_text.ensures)
+    ((for.input, record { asked = c.args.asked; asks = asks; input_is = for.is }, subst (FailsWithin before now) for.most_is fails), c.write_text.ensures.wrote)
 
 pub returns-in-Err-OverLimit-clause-answer : goal.returns-in-Err-OverLimit-clause-answer
 returns-in-Err-OverLimit-clause-answer g c = λ words asks.
@@ -64,3 +66,9 @@ returns-in-Err-OverLimit-clause-answer g c = λ words asks.
     IfOk-weaker c.refused.result _ _
     (λ a is. subst (Comes words before now (λ text. Wrote (g.K.Sink.stream c.args.sink.now) (g.K.Sink.stream c.refused.new.sink) text a.written)) (sym is.0)
     (for.input, record { asked = c.args.asked; asks = asks; input_is = for.is }, (codes "TooLarge", inl (over, refl, refl), is.1))) c.refused.ensures.answer
+
+-- ---- how far was read, where memory is wanting
+
+pub returns-in_default-clause-further : goal.returns-in_default-clause-further
+returns-in_default-clause-further g c =
+    on_err_weaker c.answer_bytes.result (λ unwritten input is. absurd (none-some input (sym (none_read c.args.asked (sym c.in_default.is ∙ c.most_of.ensures)) ∙ is))) c.answer_bytes.ensures.memory

@@ -1,5 +1,8 @@
+use Rattle.std.proofs.Common.{◌∙◌}
+use Rattle.std.proofs.lemmas.Result.{on_err_weaker}
 use Rattle.tc_main.specs.Words.{AskFor}
 use Rattle.tc_main.proofs.Replaying.{unread_input}
+use Rattle.tc_main.proofs.SameAsked.{one_input}
 use Rattle.tc_main.proofs.answer.answer_words.Goals as goal
 
 pub returns-in-Some-clause-answer : goal.returns-in-Some-clause-answer
@@ -11,3 +14,8 @@ pub returns-in-Some-clause-unread : goal.returns-in-Some-clause-unread
 returns-in-Some-clause-unread g c = λ other.
     let asks : AskFor c.args.words.now c.in-Some.asked = rw c.in-Some.is at c.asked_of.ensures.some in
     c.answer_asked.ensures.unread (unread_input c.args.words.now c.in-Some.asked asks other)
+
+pub returns-in-Some-clause-further : goal.returns-in-Some-clause-further
+returns-in-Some-clause-further g c =
+    let asks : AskFor c.args.words.now c.in-Some.asked = rw c.in-Some.is at c.asked_of.ensures.some in
+    on_err_weaker c.answer_asked.result (λ far input other. far input (one_input c.args.words.now c.in-Some.asked other.asked asks other.asks ∙ other.input_is)) c.answer_asked.ensures.further

@@ -20,7 +20,7 @@ module _ (words : List (List ℕ)) (before now had has : Stream) where
   cut : (s : Status) → (s ≡ Done → ⊥) → Comes words before now (FailsAmid had has) s → Ends words before now had has s
   cut Done other a = absurd (other refl)
   cut Usage other a = (a.0, a.1, inr a.2)
-  cut ReadFault other a = absurd (omega (arith, a.2.short))
+  cut ReadFault other a = absurd (omega (arith, a.1.short))
   cut (Refused k) other a = (a.0, a.1, (a.2.0, a.2.1, inr a.2.2))
   cut WriteFault other a = absurd a
   cut OutOfMemory other a = absurd a

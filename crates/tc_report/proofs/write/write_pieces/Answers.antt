@@ -3,7 +3,7 @@ use Rattle.tc_report.proofs.Writing.{piece_fails, piece_given}
 use Rattle.tc_report.proofs.write.write_pieces.Goals as goal
 
 pub returns-in-Err : goal.returns-in-Err
-returns-in-Err g c = piece_fails _ _ _ c.args.blocks.now c.loop-number.number c.as_bytes.result.now (search rules) c.loop-number.invariant c.in-Err.ensures
+returns-in-Err g c = piece_fails _ _ _ c.args.blocks.now c.loop-number.number c.as_bytes.result.now (search rules) c.loop-number.invariant c.in-Err.ensures.wrote
 
 pub loop-number-preserved : goal.loop-number-preserved
-loop-number-preserved g c = piece_given _ _ _ c.args.blocks.now c.loop-number.number c.as_bytes.result.now (search rules) c.loop-number.invariant c.in_default.ensures
+loop-number-preserved g c = piece_given _ _ _ c.args.blocks.now c.loop-number.number c.as_bytes.result.now (search rules) c.loop-number.invariant c.in_default.ensures.wrote
