@@ -201,7 +201,7 @@ fn each_form_is_written_as_one_text(rt: HostRuntime) -> Result<(), Fail> {
         (&[b"replay", b"92", b"1", b"100", b"0"], &history, 479),
         (&[b"profile", b"92", b"1", b"100", b"0"], &history, 56),
         (&[b"gen", b"1"], &[], 524),
-        (&[b"demo", b"1", b"1"], &[], 469),
+        (&[b"demo", b"1", b"1"], &[], 470),
     ];
     for (words, file, size) in forms {
         check_form(&rt, alloc, words, file, size)?;
