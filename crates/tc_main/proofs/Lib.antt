@@ -8,3 +8,6 @@ pub mod Statuses
 pub mod NodeRows
 pub mod Spelled
 pub mod Legal
+pub mod Guests
+pub mod Sections
+pub mod GivenBack

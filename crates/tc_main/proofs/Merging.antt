@@ -32,7 +32,7 @@ filter_all : (p : Block → Bool) (h : List Block) → ((i : ℕ) (b : Block) �
 filter_all p [] all = refl
 filter_all p (b ∷ h) all = ap (λ v. cond v (b ∷ filter p h) (filter p h)) (all 0 b refl) ∙ ap (λ l. b ∷ l) (filter_all p h (λ i. all (suc i)))
 
-filter_none : (p : Block → Bool) (h : List Block) → ((i : ℕ) (b : Block) → get_elem? h i ≡ some b → p b ≡ false) → filter p h ≡ []
+pub filter_none : (p : Block → Bool) (h : List Block) → ((i : ℕ) (b : Block) → get_elem? h i ≡ some b → p b ≡ false) → filter p h ≡ []
 filter_none p [] none = refl
 filter_none p (b ∷ h) none = ap (λ v. cond v (b ∷ filter p h) (filter p h)) (none 0 b refl) ∙ filter_none p h (λ i. none (suc i))
 

@@ -27,14 +27,14 @@ use Rattle.tc_main.proofs.SameAsked.{one_history_asked, one_input}
 
 -- the same guest and the same history stand in the same bytes
 module _ (size : ℕ) (bytes : List ℕ) (image other : Shown) (h g : List Block) (a : HasHistory size bytes image h) (b : HasHistory size bytes other g) where
-  same_guest : image ≡ other
+  pub same_guest : image ≡ other
   same_guest = a.guest.1 ∙ sym b.guest.1
 
-  same_blocks : h ≡ g
+  pub same_blocks : h ≡ g
   same_blocks = one_history (drop size bytes) h g a.text b.text
 
 module _ (size : ℕ) (o : Options) (bytes : List ℕ) where
-  never : (r : Rejection) → HasRun size o bytes → IsRejection size o bytes r → ⊥
+  pub never : (r : Rejection) → HasRun size o bytes → IsRejection size o bytes r → ⊥
   never r ran (inl text) = never_wrong (drop size bytes) ran.history r.line ran.is.text text.line
   never r ran (inr wrong) =
       let run : IsCompleteRun wrong.image o wrong.history = subst (λ (x : Shown × List Block). IsCompleteRun x.0 o x.1)
@@ -44,7 +44,7 @@ module _ (size : ℕ) (o : Options) (bytes : List ℕ) where
   same_place : (r s : Rejection) → r.line ≡ s.line → r.reason ≡ s.reason → r ≡ s
   same_place r s line reason = λ i. record { line = line i; reason = reason i }
 
-  one : (r s : Rejection) → IsRejection size o bytes r → IsRejection size o bytes s → r ≡ s
+  pub one : (r s : Rejection) → IsRejection size o bytes r → IsRejection size o bytes s → r ≡ s
   one r s (inl a) (inl b) = same_place r s (one_line (drop size bytes) r.line s.line a.line b.line) (a.reason ∙ sym b.reason)
   one r s (inl a) (inr b) = absurd (never_wrong (drop size bytes) b.history r.line b.is.text a.line)
   one r s (inr a) (inl b) = absurd (never_wrong (drop size bytes) a.history s.line a.is.text b.line)
@@ -55,11 +55,11 @@ module _ (size : ℕ) (o : Options) (bytes : List ℕ) where
       same_place r s same.0 same.1
 
 -- so it is of what is asked
-never_both_asked : (h : Option (ℕ × Options)) (bytes : List ℕ) (r : Rejection) → Accepts h bytes → Rejects h bytes r → ⊥
+pub never_both_asked : (h : Option (ℕ × Options)) (bytes : List ℕ) (r : Rejection) → Accepts h bytes → Rejects h bytes r → ⊥
 never_both_asked None bytes r accepted rejected = rejected
 never_both_asked (Some h) bytes r accepted rejected = never h.0 h.1 bytes r accepted rejected
 
-one_asked : (h : Option (ℕ × Options)) (bytes : List ℕ) (r s : Rejection) → Rejects h bytes r → Rejects h bytes s → r ≡ s
+pub one_asked : (h : Option (ℕ × Options)) (bytes : List ℕ) (r s : Rejection) → Rejects h bytes r → Rejects h bytes s → r ≡ s
 one_asked None bytes r s a b = absurd a
 one_asked (Some h) bytes r s a b = one h.0 h.1 bytes r s a b
 
@@ -70,7 +70,7 @@ text_accepts : (asked : Command) (bytes text : List ℕ) → IsTextOf asked byte
 text_accepts (Run order o) bytes text made = tt
 text_accepts (Generate rounds) bytes text made = tt
 text_accepts (Demo rounds o) bytes text made = tt
-text_accepts (Replay size o) bytes text made = made.0
+text_accepts (Replay size o) bytes text made = made.run
 text_accepts (Profile size o) bytes text made = made.0
 
 -- a guest's file that is loaded is not refused
@@ -85,7 +85,7 @@ text_needs (Run order o) input bytes text is made =
     subst (λ (i : Input). (i.least ≤ length bytes) × (refusal (i.file bytes) ≡ None)) same (omega arith, made.1.0)
 text_needs (Generate rounds) input bytes text is made = absurd (none-some input is)
 text_needs (Demo rounds o) input bytes text is made = absurd (none-some input is)
-text_needs (Replay size o) input bytes text is made = has_guest size o bytes input is made.0
+text_needs (Replay size o) input bytes text is made = has_guest size o bytes input is made.run
 text_needs (Profile size o) input bytes text is made = has_guest size o bytes input is made.0
 
 -- and none is rejected
@@ -103,7 +103,7 @@ rejection_needs (Replay size o) input bytes r is rejected = has_guest_too size o
 rejection_needs (Profile size o) input bytes r is rejected = has_guest_too size o bytes input r is rejected
 
 -- nothing is rejected where nothing is read
-never_unread : (asked : Command) (bytes : List ℕ) (r : Rejection) → input_of asked ≡ None → Rejects (history_asked asked) bytes r → ⊥
+pub never_unread : (asked : Command) (bytes : List ℕ) (r : Rejection) → input_of asked ≡ None → Rejects (history_asked asked) bytes r → ⊥
 never_unread (Run order o) bytes r none rejected = rejected
 never_unread (Generate rounds) bytes r none rejected = rejected
 never_unread (Demo rounds o) bytes r none rejected = rejected
@@ -113,7 +113,7 @@ never_unread (Profile size o) bytes r none rejected = none-some (file_and_histor
 -- ---- sources that tell their bytes
 
 -- with a source that tells its bytes, what was read to the end is all of them
-all_of : (before now : Option (List ℕ)) (bytes read : List ℕ) → before ≡ Some bytes → Consumes before now read → IsAtEnd now → bytes ≡ read
+pub all_of : (before now : Option (List ℕ)) (bytes read : List ℕ) → before ≡ Some bytes → Consumes before now read → IsAtEnd now → bytes ≡ read
 all_of None now bytes read e taken end = cc
 all_of (Some b) None bytes read e taken end = absurd taken
 all_of (Some b) (Some n) bytes read e taken end = same_Some bytes b (sym e) ∙ taken ∙ ap (λ t. read ++ t) end ∙ append-nil read
@@ -156,7 +156,7 @@ module _ (words : List (List ℕ)) (before now had has : Stream) (input : Input)
       subst (λ (b : List ℕ). (length b ≤ input.most) × (input.least ≤ length b) × (refusal (input.file b) ≡ None)) same (read.few, needs.0, needs.1)
 
   -- so was a rejection
-  rejected_of : (r : Rejection) → IsRejectedFor words before now r → (length bytes ≤ input.most) × ((input.least ≤ length bytes) × (refusal (input.file bytes) ≡ None)) × Rejects (history_asked asks.asked) bytes r
+  pub rejected_of : (r : Rejection) → IsRejectedFor words before now r → (length bytes ≤ input.most) × ((input.least ≤ length bytes) × (refusal (input.file bytes) ≡ None)) × Rejects (history_asked asks.asked) bytes r
   rejected_of r wanted =
       let is = input_is wanted.asked wanted.asks in
       let read : ReadsAll input before now wanted.bytes = subst (λ (i : Option Input). HasRead i before now wanted.bytes) is wanted.read in
@@ -167,7 +167,7 @@ module _ (words : List (List ℕ)) (before now had has : Stream) (input : Input)
       subst (λ (b : List ℕ). (length b ≤ input.most) × ((input.least ≤ length b) × (refusal (input.file b) ≡ None)) × Rejects (history_asked asks.asked) b r) same (read.few, needs, rejected)
 
   -- and a text that is made of a history
-  accepted_of : (text : List ℕ) → IsWanted words before now text → Accepts (history_asked asks.asked) bytes
+  pub accepted_of : (text : List ℕ) → IsWanted words before now text → Accepts (history_asked asks.asked) bytes
   accepted_of text wanted =
       let is = input_is wanted.asked wanted.asks in
       let read : ReadsAll input before now wanted.bytes = subst (λ (i : Option Input). HasRead i before now wanted.bytes) is wanted.read in

@@ -6,3 +6,4 @@ pub mod Top
 pub mod Wrong
 pub mod Accepted
 pub mod Existence
+pub mod RoundTrip

@@ -13,8 +13,8 @@ use Rattle.tc_build.specs.Generator.{generated, generated_file}
 use Rattle.tc_profile.specs.Text.{profile_text}
 use Rattle.tc_replay.specs.Reasons.{reason_number, reason_name}
 use Rattle.tc_replay.specs.declared.reason.Rejected.{Rejected as Rejection}
-use Rattle.tc_report.specs.Legal.{IsLegalRun, results_after}
-use Rattle.tc_main.specs.Replayed.{HasRun, IsRejection}
+use Rattle.tc_report.specs.Legal.{IsLegalRun}
+use Rattle.tc_main.specs.Replayed.{HasRun, IsRejection, IsReplayReport}
 use Rattle.tc_report.specs.Report.{report_text}
 use Rattle.tc_report.specs.Results.{Results}
 use Rattle.tc_report.specs.Summary.{summary_text}
@@ -120,7 +120,7 @@ abbrev pub IsTextOf : Command → List ℕ → List ℕ → Type 0
 IsTextOf (Run order o) bytes text = IsReport o bytes text
 IsTextOf (Generate rounds) bytes text = text ≡ generated_file rounds
 IsTextOf (Demo rounds o) bytes text = IsSummaryOf rounds o text
-IsTextOf (Replay size o) bytes text = (run : HasRun size o bytes) × (text ≡ report_text run.image o (results_after run.image o.fuel run.history))
+IsTextOf (Replay size o) bytes text = IsReplayReport size o bytes text
 IsTextOf (Profile size o) bytes text = (run : HasRun size o bytes) × (text ≡ profile_text run.image run.history)
 
 -- what the bytes that were read for what is asked come to: a text, a refusal or a rejection with its line

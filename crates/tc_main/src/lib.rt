@@ -18,16 +18,21 @@
 //!   a report and of a summary, of tc_report.
 //! - `status`: how the program ends. `top`: the top call.
 //! - `delegation`: what the history of a legal run is to the pure machine of tc_core, and what it
-//!   shows of each section. `existence`: that there is a legal run.
+//!   shows of each section. `existence`: that there is a legal run. `round_trip`: what `run` wrote,
+//!   `replay` writes again. `rejection`: that a history is rejected in one way at most. `counts`: the
+//!   profile of a history beside its report.
 #![tactic(auto)]
 
 mod answer;
+pub mod counts;
 pub mod delegation;
 mod demo;
 pub mod existence;
 mod nodes;
 pub mod order;
+pub mod rejection;
 mod replay;
+pub mod round_trip;
 mod run;
 pub mod status;
 #[cfg(test)]

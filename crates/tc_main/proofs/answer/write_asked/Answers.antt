@@ -1,5 +1,7 @@
-use Rattle.std.proofs.Common.{rules, ◌≤◌, List, ℕ, length, refl, sym, subst, ap, arith}
+use Rattle.std.proofs.Common.{rules, ◌≤◌, List, ℕ, length, take, refl, sym, subst, ap, arith}
 use Rattle.tc_elf.specs.declared.limits.TheConstants.{MAX_FILE}
+use Rattle.tc_mutex_spec.specs.Blocks.{end_after}
+use Rattle.tc_mutex_spec.proofs.Journals.{has_journal}
 use Rattle.tc_main.specs.Replayed.{HasRun}
 use Rattle.tc_main.specs.Top.{IsTextOf}
 use Rattle.tc_report.specs.Written.{Wrote}
@@ -8,6 +10,7 @@ use Rattle.tc_main.specs.Wrong.{IsWrong, IsWrongFile, IsWrongInput}
 use Rattle.tc_main.specs.declared.words.Command.{Command}
 use Rattle.tc_main.specs.declared.words.Command.TheVariants.{Run, Replay, Profile}
 use Rattle.tc_main.specs.declared.wrong.Wrong.{Wrong}
+use Rattle.tc_main.proofs.Guests.{guest_image}
 use Rattle.tc_main.proofs.Replaying.{asked_wrong, run_wrong}
 use Rattle.tc_main.proofs.answer.write_asked.Goals as goal
 
@@ -45,7 +48,12 @@ returns-in_ok-report-in-Replay-clause-wrote g c =
       is = c.in_ok-replay-in-Replay.ensures.history;
       run = c.in_ok-replay-in-Replay.ensures.replayed.run;
     } in
-    let text : IsTextOf (Replay c.in-Replay.size c.in-Replay.options) c.args.bytes.items report = (run, c.in_ok-report-in-Replay.ensures) in
+    let few = (guest_image (take c.in-Replay.size c.args.bytes.items) r.image run.is.guest).few_guards in
+    let text : IsTextOf (Replay c.in-Replay.size c.in-Replay.options) c.args.bytes.items report = record {
+      run = run;
+      journals = λ k lt. has_journal r.image c.in-Replay.options.fuel r.history.items (end_after r.image c.in-Replay.options.fuel r.history.items) k few run.run.tells;
+      printed = c.in_ok-report-in-Replay.ensures;
+    } in
     let wrote : Wrote (g.K.Sink.stream c.args.sink.now) (g.K.Sink.stream c.write_text-in-Replay.new.sink) report c.write_text-in-Replay.result = search rules in
     (report, subst (λ (a : Command). IsTextOf a c.args.bytes.items report) (sym c.in-Replay.is) text, wrote)
 

@@ -1,0 +1,15 @@
+-- A history that is given back for its replay.
+use Rattle.std.specs.Prelude.{◌≡◌, ℕ, ◌≤◌, List, ◌++◌, length, Some}
+use Rattle.tc_io.specs.Stream.{Stream}
+use Rattle.tc_isa.specs.declared.options.Options.{Options}
+use Rattle.tc_journal.specs.Line.{history_text}
+use Rattle.tc_journal.specs.declared.block.Block.{Block}
+use Rattle.tc_main.specs.Words.{AskFor, file_and_history}
+use Rattle.tc_main.specs.declared.words.Command.TheVariants.{Replay}
+
+-- the words ask for a replay with these options, and the source tells that it has this guest's file and behind it the lines of this
+-- history, no more bytes in all than are read
+pub record IsGivenBack (words : List (List ℕ)) (o : Options) (file : List ℕ) (h : List Block) (source : Stream) : Type 0 where
+  pub asks : AskFor words (Replay (length file) o)
+  pub told : source.bytes ≡ Some (file ++ history_text h)
+  pub few : length (file ++ history_text h) ≤ (file_and_history (length file)).most
