@@ -1,0 +1,86 @@
+ghost use Rattle.std.specs.Prelude.{◌≡◌};
+ghost use Rattle.tc_queue.specs.View.{IsOwnSeatOf};
+
+use super::*;
+use crate::stack::Stack;
+use std::alloc::Global;
+use std::process::Abort;
+use std::sync::Wait;
+use std::test::*;
+use tc_queue::{Arrival, Departure, Turn, Waiters};
+use tc_seats::NotedSeat;
+
+/// The first turn of a thread.
+fn turn(thread: u32) -> Turn
+    ensures { (result.thread ≡ thread) × (result.number ≡ 1) }
+{
+    Turn { thread, number: 1 }
+}
+
+/// Threads 1, 2 and 3 wait in this order. Whoever is served first and second comes again behind the
+/// others. Answers who is served, in five goes.
+fn goes<R: Abort>(rt: &R, alloc: Global, bound: u32) -> Result<[u32; 5], Fail> {
+    let mut stack = Stack::new(alloc, bound)?;
+    for thread in 1..4 {
+        stack.link(turn(thread));
+    }
+    let mut order = [0; 5];
+    for go in 0..5 {
+        let next = stack.next().expect(rt, "somebody waits");
+        order[go] = next.thread;
+        if go < 2 {
+            stack.link(next);
+        }
+    }
+    Ok(order)
+}
+
+/// Worked out by hand. With 0 nobody is passed over, which is the order of entry. With 1 thread 3 is
+/// served first, and then neither 1 nor 2 may be passed over again. With 2 that comes one go later,
+/// and with 9 not at all.
+#[test]
+fn the_youngest_comes_first_within_the_bound(rt: HostRuntime) -> Result<(), Fail> {
+    let rows = [
+        (0, [1, 2, 3, 1, 2]),
+        (1, [3, 1, 2, 1, 3]),
+        (2, [3, 3, 1, 2, 3]),
+        (9, [3, 3, 3, 2, 1]),
+    ];
+    for (bound, wanted) in rows {
+        assert_eq!(rt; goes(&rt, rt.alloc(), bound)?, wanted, "bound {bound}");
+    }
+    Ok(())
+}
+
+/// Seat 0 makes its calls for thread 0, and seat 1 for thread 1.
+fn take_turns<R: Abort + Wait + Sync>(
+    rt: &R,
+    queue: &YoungestQueue<'_, R>,
+    zero: &mut NotedSeat,
+    one: &mut NotedSeat,
+)
+    requires threads { queue.now.threads ≡ 2 }
+    requires seats { IsOwnSeatOf queue.now zero.old × IsOwnSeatOf queue.now one.old }
+{
+    let (first, second) = (turn(0), turn(1));
+    assert_eq!(rt; queue.enter(zero, first), Arrival::First);
+    let Arrival::Behind(place) = queue.enter(one, second) else {
+        panic!(rt; "the second turn found nobody")
+    };
+    assert_eq!(rt; queue.next(rt, zero, first), None);
+    assert_eq!(rt; queue.leave(rt, zero, first), Departure::Followed);
+    queue.link(one, place, second);
+    assert_eq!(rt; queue.next(rt, zero, first), Some(second));
+    assert_eq!(rt; queue.next(rt, one, second), None);
+    assert_eq!(rt; queue.leave(rt, one, second), Departure::Left);
+}
+
+#[test]
+fn two_seats(rt: HostRuntime) -> Result<(), Fail> {
+    let (queue, seats) = YoungestQueue::new(&rt, rt.alloc(), 2, 2, 1)?;
+    let mut seats = seats.into_iter();
+    let mut zero = seats.next().expect(&rt, "the first seat");
+    let mut one = seats.next().expect(&rt, "the second seat");
+    take_turns(&rt, &queue, &mut zero, &mut one);
+    Ok(())
+}
