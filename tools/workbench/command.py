@@ -17,7 +17,8 @@ GROUPS: Tuple[Tuple[str, Tuple[Subcommand, ...]], ...] = (
     ("run", (
         Subcommand("run", "running.run", "print a report: by the program where it is built, else by the model"),
         Subcommand("simulate", "running.run:simulate", "print a report by the model, in the interleaving of a seed"),
-        Subcommand("sweep", "running.sweep", "run with many numbers of workers and batch limits: a table, and plots"))),
+        Subcommand("sweep", "running.sweep", "run with many numbers of workers and batch limits: a table, and plots"),
+        Subcommand("orders", "running.orders", "compare orders of a lock's waiters, by the model: a table, and a plot"))),
     ("look", (
         Subcommand("draw", "drawing.draw", "draw a report: a picture, lanes for a terminal, or a page to step through"),
         Subcommand("summary", "reports.counts", "count what a report says, by lock, by thread and by worker"),

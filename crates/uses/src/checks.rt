@@ -1,0 +1,36 @@
+//! A history that one's own program made is checked.
+
+ghost use Rattle.std.specs.Prelude.{◌≡◌, Ok, Some, None};
+ghost use Rattle.tc_journal.specs.History.{IsInOrder};
+ghost use Rattle.tc_replay.specs.Rejected.{IsAccepted, IsRejected};
+ghost use Rattle.tc_replay.specs.declared.reason.Rejected.{Rejected as AnyRejected};
+
+use std::alloc::{AllocError, Global};
+use tc_elf::image::Image;
+use tc_journal::block::Block;
+use tc_replay::{Rejected, Terms, check};
+
+/// Gives the blocks their stamps: each has the number of its place.
+pub fn stamp(blocks: &mut [Block])
+    ensures { IsInOrder blocks.new }
+{
+    for i in 0..blocks.len() {
+        blocks[i].stamp = i as u64;
+    }
+}
+
+/// Gives the blocks their stamps, and says what is the first thing that is wrong with the history:
+/// None exactly where nothing is.
+pub fn check_own(
+    alloc: Global,
+    image: &Image,
+    terms: Terms,
+    blocks: &mut [Block],
+) -> Result<Option<Rejected>, AllocError>
+    ensures accepted { result ≡ Ok None → IsAccepted image.now terms blocks.new }
+    ensures rejected { (r : AnyRejected) → result ≡ Ok (Some r)
+        → IsRejected image.now terms blocks.new r.line r.reason }
+{
+    stamp(blocks);
+    check(alloc, image, terms, blocks)
+}

@@ -1,0 +1,13 @@
+//! Callers of the libraries, as a program of one's own would call them.
+//!
+//! Each is small, and has a contract that follows from those of what it calls: read them before you
+//! write your own. The README of each library shows one of them.
+//!
+//! - `queues`: turns enter an order of waiters by hand, and the calls are counted.
+//! - `checks`: a history that one's own program made is checked.
+#![tactic(auto)]
+
+pub mod checks;
+pub mod queues;
+#[cfg(test)]
+mod tests;

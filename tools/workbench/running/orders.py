@@ -1,0 +1,105 @@
+"""Compares orders of a lock's waiters on a guest, by the model: a line for each order and each seed (CSV).
+
+  entry      as they came: queues of tc_queue
+  nodes      the releaser's node first, within the bound: queues of tc_nodes; worker W is on node W modulo the nodes
+  youngest   the last that came first, within the bound: the example tc_youngest
+
+The orders have the same seeds. Nothing is said of time. The numbers are sums over the locks:
+"""
+from __future__ import annotations
+
+import argparse
+import csv
+import sys
+import types
+from typing import Dict, List, Tuple
+
+from .. import limits, progress, tool
+from ..drawing import svg
+from ..guest import guestfile, model
+from ..reports import counts
+from . import delegation, sweep
+
+NUMBERS = ("sections", "adopted", "granted", "changes", "waiting", "longest_wait")
+TITLES = {"changes": "changes of a lock's worker", "waiting": "blocks waited, in sum",
+          "longest_wait": "longest wait, in blocks"}
+WIDE, LINE, LEFT = 420, 18, 90  # of the picture: the longest bar, a bar's place, and the names
+
+
+class YoungestHall(delegation.Hall):
+    """Serves who came last, as long as the oldest was not passed over as often as the bound says."""
+
+    def next_in_line(self, lock: int, worker: delegation.Worker) -> int:
+        waiting = [thread for thread in self.line[lock][1:] if (thread, lock) in self.linked]
+        if self.shipped[waiting[0]][1] >= self.bound:
+            return waiting[0]
+        for passed in waiting[:-1]:
+            self.shipped[passed][1] += 1
+        return waiting[-1]
+
+
+Row = Tuple[str, int, Dict[str, int]]
+
+
+def made(file: bytes, asked: argparse.Namespace, order: str, seed: int) -> Dict[str, int]:
+    """The numbers of a run in this order."""
+    hall = (YoungestHall if order == "youngest" else delegation.Hall)(
+        model.Guest(file), asked.workers, asked.fuel, asked.batch, seed,
+        nodes=asked.nodes if order == "nodes" else 0, bound=asked.bound)
+    blocks = hall.history()
+    shape = types.SimpleNamespace(threads=len(hall.threads), guards=len(hall.home), workers=asked.workers)
+    setting = sweep.Setting("model", asked.workers, asked.batch, 0, asked.bound, asked.fuel, 1, seed)
+    return sweep.counted(setting, shape, blocks).sums()
+
+
+def picture(name: str, asked: argparse.Namespace, rows: List[Row]) -> str:
+    """Bars of the means of each order."""
+    parts = [svg.label(10, 20, f"{name}: {asked.workers} workers, batch limit {asked.batch}, bound {asked.bound}, "
+                       f"means of {asked.runs} runs by the model", "h")]
+    y = 44
+    orders = list(dict.fromkeys(order for order, _, _ in rows))
+    for number, title in TITLES.items():
+        parts.append(svg.label(10, y, title, "g"))
+        values = [[row[number] for which, _, row in rows if which == order] for order in orders]
+        means = [sum(found) / len(found) for found in values]
+        for which, (order, mean) in enumerate(zip(orders, means)):
+            y += LINE
+            parts += [svg.label(10, y, order),
+                      svg.box(LEFT, y - 10, WIDE * mean / (max(means) or 1), 12, svg.COLOURS[which]),
+                      svg.label(LEFT + WIDE + 6, y, f"{mean:,.1f}")]
+        y += 2 * LINE
+    return svg.document(LEFT + WIDE + 80, y, svg.STYLE, parts)
+
+
+def asked_of(words: List[str]) -> argparse.Namespace:
+    parser = tool.words("orders", __doc__ + counts.MEANINGS, "guest")
+    for name, (least, most), usual in (("workers", limits.RUN["workers"], 4), ("batch", limits.RUN["batch"], 8),
+                                       ("nodes", (1, limits.NUMBERS["nodes"][1]), 2),
+                                       ("bound", limits.NUMBERS["bound"], 4), ("fuel", limits.RUN["fuel"], 20000),
+                                       ("runs", (1, 1000), 3), ("seed", (0, 10**9), 1)):
+        parser.add_argument(f"--{name}", metavar="N", type=tool.number(least, most), default=usual, help=f"({usual})")
+    parser.add_argument("--plot", metavar="FILE", help="write a picture of the means into it (SVG)")
+    asked = parser.parse_args(words)
+    if asked.nodes > asked.workers:
+        parser.error("there are more --nodes than --workers")
+    return asked
+
+
+def main(words: List[str]) -> None:
+    asked = asked_of(words)
+    file = guestfile.read(asked.guest)
+    guestfile.accepted(file, asked.guest)
+    table = csv.writer(sys.stdout, lineterminator="\n")
+    table.writerow(["order", "seed", *NUMBERS])
+    rows: List[Row] = []
+    jobs = [(order, asked.seed + run) for order in ("entry", "nodes", "youngest") for run in range(asked.runs)]
+    with progress.Progress("orders", "runs", len(jobs)) as shown:
+        for order, seed in shown.each(jobs):
+            numbers = made(file, asked, order, seed)
+            progress.clear()
+            table.writerow([order, seed, *(numbers[name] for name in NUMBERS)])
+            rows.append((order, seed, numbers))
+    sys.stdout.flush()
+    if asked.plot and rows:
+        tool.write_file(asked.plot, picture(asked.guest.rpartition("/")[2], asked, rows))
+    shown.end()
