@@ -75,6 +75,12 @@ def clear() -> None:
         sys.stderr.flush()
 
 
+def say(text: str) -> None:
+    """Prints a line while work goes on."""
+    clear()
+    print(text, flush=True)
+
+
 def number(value: float) -> str:
     return f"{value:.1e}" if value >= 1e9 else f"{value:,.0f}" if value >= 10 else f"{value:.2g}"
 

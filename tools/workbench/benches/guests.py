@@ -37,36 +37,26 @@ def again(body: list[int], behind: str = "jal 0") -> list[int]:
     return body + code(f"{behind} {-4 * len(body)}")
 
 
-def arithmetic() -> bytes:
-    """Arithmetic without locks, one block for each 4,096 turns."""
-    return elf(again(code("addi 5 5 1; slli 6 5 3; xor 7 7 6; add 8 8 7; srli 9 8 5; sub 12 9 5; and 13 12 8; "
-                          "sltu 14 13 12")), 0)
+# The guests that run some code again and again: what they run once before, that code, and their number of locks.
+LOOPS = {
+    # Arithmetic without locks, one block for each 4,096 turns.
+    "arithmetic": ("", "addi 5 5 1; slli 6 5 3; xor 7 7 6; add 8 8 7; srli 9 8 5; sub 12 9 5; and 13 12 8; "
+                   "sltu 14 13 12", 0),
+    # Loads and stores in each thread's own stack, beside 16 guards that nobody uses.
+    "memory": ("", "addi 8 2 -64;" + 4 * ADD_ONE, 16),
+    # One lock, and a short section that adds one to a word of its guard.
+    "hot-lock": (f"lui 8 {DATA}", f"LOCK 0; {ADD_ONE} UNLOCK 0", 1),
+    # The same, but each thread has a lock of its own: the one with its number.
+    "own-locks": (f"addi 9 10 0; slli 8 9 6; lui 7 {DATA}; add 8 8 7", f"LOCK x9; {ADD_ONE} UNLOCK x9", THREADS),
+    # Four locks, taken one in the other and given up again.
+    "nested-locks": ("", "LOCK 0; LOCK 1; LOCK 2; LOCK 3; UNLOCK 3; UNLOCK 2; UNLOCK 1; UNLOCK 0", 4),
+    # SLEEP and a jump: blocks of two turns.
+    "sleeps": ("addi 10 0 0; addi 17 0 3", "ecall", 0)}
 
 
-def memory() -> bytes:
-    """Loads and stores in each thread's own stack, beside 16 guards that nobody uses."""
-    return elf(again(code("addi 8 2 -64;" + 4 * ADD_ONE)), 16)
-
-
-def hot_lock() -> bytes:
-    """One lock, and a short section that adds one to a word of its guard."""
-    return elf(code(f"lui 8 {DATA}") + again(code(f"LOCK 0; {ADD_ONE} UNLOCK 0")), 1)
-
-
-def own_locks() -> bytes:
-    """The same, but each thread has a lock of its own: the one with its number."""
-    base = code(f"addi 9 10 0; slli 8 9 6; lui 7 {DATA}; add 8 8 7")
-    return elf(base + again(code(f"LOCK x9; {ADD_ONE} UNLOCK x9")), THREADS)
-
-
-def nested_locks() -> bytes:
-    """Four locks, taken one in the other and given up again."""
-    return elf(again(code("LOCK 0; LOCK 1; LOCK 2; LOCK 3; UNLOCK 3; UNLOCK 2; UNLOCK 1; UNLOCK 0")), 4)
-
-
-def sleeps() -> bytes:
-    """SLEEP and a jump: blocks of two turns."""
-    return elf(code("addi 10 0 0; addi 17 0 3") + again(code("ecall")), 0)
+def loop(name: str) -> bytes:
+    before, body, guards = LOOPS[name]
+    return elf(code(before) + again(code(body)), guards)
 
 
 def mailboxes(sections: int = 1500) -> bytes:
@@ -88,36 +78,30 @@ def shortest_blocks(threads: int = THREADS, guards: int = 16) -> bytes:
     return elf(taken + again(65536 * code("ecall")), guards, ((DATA, b"", guards * GUARD_BYTES),), threads)
 
 
-def longest_history() -> bytes:
-    """The same with as many threads and locks as there can be: the most blocks with the longest lines."""
-    return shortest_blocks(limits.THREADS[2], limits.GUARDS[2])
-
-
-def twelve_ranges(lengths: list[int]) -> list[tuple[int, bytes, int]]:
-    """Twelve writable ranges behind one another, of these lengths; the first has the guards."""
-    ranges, start = [], DATA
-    for length in lengths:
-        ranges.append((start, bytes(range(256)) * (length // 256), length))
-        start += length + 0x1000
-    return ranges
+def twelve_ranges(length: int) -> list[tuple[int, bytes, int]]:
+    """Twelve writable ranges of this length behind one another; the first has the guards."""
+    content = bytes(range(256)) * (length // 256)
+    return [(DATA + number * (length + 0x1000), content, length) for number in range(12)]
 
 
 def image(kibibytes: int) -> bytes:
     """Each thread ends at once: what is left is the start over so many bytes in 13 ranges."""
-    return elf(code("EXIT 0"), 16, twelve_ranges(12 * [kibibytes * 1024 // 12]))
+    return elf(code("EXIT 0"), 16, twelve_ranges(kibibytes * 1024 // 12))
 
 
 def many_ranges() -> bytes:
     """Loads and stores in the last of 13 ranges, beside 16 guards that nobody uses."""
-    ranges = twelve_ranges(12 * [4096])
+    ranges = twelve_ranges(4096)
     return elf(code(f"lui 8 {ranges[-1][0]}") + again(code("addi 8 8 0;" + 4 * ADD_ONE)), 16, ranges)
 
 
-MAKERS: tuple[Callable[[], bytes], ...] = (arithmetic, memory, hot_lock, own_locks, nested_locks, sleeps,
-                                           mailboxes, shortest_blocks, longest_history, many_ranges)
-GUESTS: dict[str, Callable[[], bytes]] = {getattr(maker, "__name__").replace("_", "-"): maker for maker in MAKERS}
-GUESTS.update({f"{size}-image": functools.partial(image, kibibytes)
-               for size, kibibytes in (("quarter", 240), ("half", 480), ("large", 960))})
+GUESTS: dict[str, Callable[[], bytes]] = {
+    **{name: functools.partial(loop, name) for name in LOOPS},
+    "mailboxes": mailboxes, "shortest-blocks": shortest_blocks,
+    # The same with as many threads and locks as there can be: the most blocks with the longest lines.
+    "longest-history": lambda: shortest_blocks(limits.THREADS[2], limits.GUARDS[2]), "many-ranges": many_ranges,
+    **{f"{size}-image": functools.partial(image, kibibytes)
+       for size, kibibytes in (("quarter", 240), ("half", 480), ("large", 960))}}
 
 
 def file_of(name: str) -> bytes:

@@ -11,7 +11,6 @@ import argparse
 import statistics
 from typing import Any
 
-from .. import progress
 from ..running import sweep
 from . import guests, process, table
 
@@ -31,21 +30,23 @@ def row(name: str, order: tuple[int, int, int], results: list[sweep.Result]) -> 
     return [name, f"`nodes {nodes} {bound}`" if nodes else "`run`", *cells, seconds]
 
 
-def main(words: list[str]) -> None:
+def measure(name: str, settings: list[sweep.Setting], to: table.Table) -> None:
+    """Prints the lines of a guest."""
+    orders: dict[tuple[int, int, int], list[sweep.Result]] = {}
+    for result in sweep.results(guests.file_of(name), settings):
+        orders.setdefault(result.setting.order(), []).append(result)
+    for order, results in orders.items():
+        to.row(row(name, order, results), [(result.seconds, result.sums()) for result in results])
+
+
+def main(words: list[str]) -> int:
     parser = process.words("nodes", __doc__, OWN + OF_BENCH, "all", "run")
     process.add_number(parser, "runs", 5, "of each order")
     asked = process.parsed(parser, words, OWN + OF_BENCH)
     settings = sorted(sweep.settings_of(argparse.Namespace(
         workers=[asked.workers], batch=[asked.batch], fuel=asked.fuel, nodes=NODES, bound=BOUNDS, runs=asked.runs), "program"),
         key=lambda setting: setting.run)
-    to = table.Table("nodes", asked, [table.Column("Guest"), table.Column("Words"), *(
-        table.Column(column.replace("_", " ").capitalize(), ",.0f") for column in COLUMNS), table.Column("Seconds", ".3f")])
-    names = asked.guests or OWN + OF_BENCH
-    with progress.Progress("bench nodes", "guests", len(names)) as shown:
-        for name in shown.each(names):
-            orders: dict[tuple[int, int, int], list[sweep.Result]] = {}
-            for result in sweep.results(guests.file_of(name), settings):
-                orders.setdefault(result.setting.order(), []).append(result)
-            for order, results in orders.items():
-                to.row(row(name, order, results), [(result.seconds, result.sums()) for result in results])
-    shown.end()
+    to = table.Table("nodes", asked, [("Guest",), ("Words",), *(
+        (column.replace("_", " ").capitalize(), ",.0f") for column in COLUMNS), ("Seconds", ".3f")])
+    to.fill("guests", asked.guests or OWN + OF_BENCH, lambda name: measure(name, settings, to))
+    return to.end()

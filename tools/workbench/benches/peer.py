@@ -20,18 +20,17 @@ from pathlib import Path
 import tempfile
 import types
 
-from .. import limits, places, progress, tool
+from .. import limits, places, tool
 from ..guest import model
 from ..reports import report
 from . import guests, process, table
-from .process import Failed
+from .table import Failed
 
 FACTS = json.loads((places.GUESTS / "facts.json").read_text())
 AMPLE = 20000  # fuel with which the facts hold
-COLUMNS = [table.Column("Guest"), table.Column("Turns", ","), table.Column("Blocks", ","), *(
-    table.Column(title, ".4f") for title in ("Program: seconds", "processor", "Peer: seconds", "processor",
-                                             "Peer with text: seconds", "processor")),
-    table.Column("To peer", ".2f"), table.Column("To peer with text", ".2f")]
+COLUMNS = (("Guest",), ("Turns", ","), ("Blocks", ","), *((title, ".4f") for title in (
+    "Program: seconds", "processor", "Peer: seconds", "processor", "Peer with text: seconds", "processor")),
+    ("To peer", ".2f"), ("To peer with text", ".2f"))
 
 
 class Measured:
@@ -101,11 +100,11 @@ def measure(name: str, asked: Namespace, peer: Path, to: table.Table) -> list[fl
 def sum_up(folder: str, ratios: dict[str, list[float]]) -> None:
     """Tells the ratios of a folder's guests in one line."""
     log, text = ({name: pair[which] for name, pair in ratios.items()} for which in (0, 1))
-    print(f"Of {report.several(len(ratios), 'guest')} of {folder}, the program's processor seconds in those of the peer: "
-          f"{table.spread(log)}; in those of the peer with text: {table.spread(text)}.")
+    print(f"\nOf {report.several(len(ratios), 'guest')} of {folder}, the program's processor seconds in those of "
+          f"the peer: {table.spread(log)}; in those of the peer with text: {table.spread(text)}.")
 
 
-def main(words: list[str]) -> int | None:
+def main(words: list[str]) -> int:
     known = (*guests.GUESTS, *FACTS)
     parser = process.words("peer", __doc__, known, "all")
     process.add_number(parser, "fuel", limits.RUN["fuel"][1], "of each thread")
@@ -114,22 +113,11 @@ def main(words: list[str]) -> int | None:
                         default=max(os.sched_getaffinity(0)), help="the processor on which all runs (the last one)")
     asked = process.parsed(parser, words, known, os.sched_getaffinity(0))
     os.sched_setaffinity(0, {asked.core})
-    ratios, failed = {}, 0
     with tempfile.TemporaryDirectory() as folder:
-        peer = process.compiled("peer.c", folder, "-pthread")
-        names, to = asked.guests or [*guests.GUESTS, *FACTS], table.Table("peer", asked, COLUMNS)
-        with progress.Progress("bench peer", "guests", len(names)) as shown:
-            for name in shown.each(names):
-                try:
-                    ratios[name] = measure(name, asked, peer, to)
-                except Failed as why:
-                    failed += 1
-                    progress.clear()
-                    print(f"{name}: {why}", flush=True)
+        peer, to = process.compiled("peer.c", folder, "-pthread"), table.Table("peer", asked, COLUMNS)
+        ratios = dict(to.fill("guests", asked.guests or known, lambda name: measure(name, asked, peer, to)))
     for folder, names in ("bench/", guests.GUESTS), ("guests/", FACTS):
         found = {name: ratios[name] for name in names if name in ratios}
         if found:
-            print()
             sum_up(folder, found)
-    shown.end()
-    return tool.WRONG if failed else tool.DONE
+    return to.end()

@@ -21,10 +21,6 @@ TURNS = re.compile(rb"^block \d+ thread \d+ turns (\d+) ")
 ADDED = {"GLIBC_TUNABLES": "glibc.malloc.hugetlb=1"}
 
 
-class Failed(Exception):
-    """What was otherwise than it must be."""
-
-
 class Took(NamedTuple):
     """The seconds from the start to the end, those that the process was running, and its peak memory in bytes."""
     seconds: float

@@ -14,15 +14,15 @@ import os
 import tempfile
 from typing import Any, IO
 
-from .. import limits, progress, tool
+from .. import limits
 from . import guests, process, table
-from .process import Failed
+from .table import Failed
 
 USUAL = "sleeps", "hot-lock", "nested-locks", "shortest-blocks", "longest-history"
-COLUMNS = [table.Column(*column) for column in (
-    ("Guest",), ("Blocks", ","), ("Bytes", ","), ("Run", ".3f"), ("Reading", ".3f"), ("MB/second", ".0f"), ("Replay", ".3f"),
-    ("Profile", ".3f"), ("Replay/run", ".2f"), ("Profile/replay", ".2f"), ("Run MB", ".0f"), ("Replay MB", ".0f"),
-    ("Profile MB", ".0f"), ("Memory", ".2f"))]
+COLUMNS = (
+    ("Guest",), ("Blocks", ","), ("Bytes", ","), ("Run", ".3f"), ("Reading", ".3f"), ("MB/second", ".0f"),
+    ("Replay", ".3f"), ("Profile", ".3f"), ("Replay/run", ".2f"), ("Profile/replay", ".2f"), ("Run MB", ".0f"),
+    ("Replay MB", ".0f"), ("Profile MB", ".0f"), ("Memory", ".2f"))
 
 
 def least(words: tuple[Any, ...], given: IO[bytes], status: int, runs: int) -> tuple[float, float, IO[bytes]]:
@@ -70,21 +70,13 @@ def measure(name: str, fuel: int, asked: Namespace, to: table.Table) -> None:
             replay_peak, profile_peak, replay_peak / run_peak])
 
 
-def main(words: list[str]) -> int | None:
+def main(words: list[str]) -> int:
     parser = process.words("replay", __doc__, guests.GUESTS, ", ".join(USUAL))
     process.add_number(parser, "batch", 0, "batch limit")
     process.add_list(parser, "fuel", [limits.RUN["fuel"][1]], "of each thread; of several numbers each gets a line")
     process.add_number(parser, "runs", 1, "runs of each, of which the least numbers are told")
     asked = process.parsed(parser, words, guests.GUESTS)
     lines = [(name, fuel) for name in asked.guests or USUAL for fuel in asked.fuel]
-    failed, to = 0, table.Table("replay", asked, COLUMNS)
-    with progress.Progress("bench replay", "lines", len(lines)) as shown:
-        for name, fuel in shown.each(lines):
-            try:
-                measure(name, fuel, asked, to)
-            except Failed as why:
-                failed += 1
-                progress.clear()
-                print(f"{name}: {why}", flush=True)
-    shown.end()
-    return tool.WRONG if failed else tool.DONE
+    to = table.Table("replay", asked, COLUMNS)
+    to.fill("lines", lines, lambda line: measure(line[0], line[1], asked, to))
+    return to.end()

@@ -22,9 +22,9 @@ from . import guests, process, table
 Counter = Tuple[List[str], "re.Pattern[bytes]"]
 # The two fuels whose difference leaves the start out.
 FEW, MANY = 512, 1024
-COLUMNS = [table.Column(*column) for column in (
-    ("Guest",), ("Workers",), ("Turns", ","), ("Blocks", ","), ("Seconds", ".3f"), ("Turns/second", ",.0f"), ("Processor", ".3f"),
-    ("Peak memory", ","), ("Report bytes", ","), ("Per turn", ".0f"), ("Start", ",.0f"))]
+COLUMNS = (
+    ("Guest",), ("Workers",), ("Turns", ","), ("Blocks", ","), ("Seconds", ".3f"), ("Turns/second", ",.0f"),
+    ("Processor", ".3f"), ("Peak memory", ","), ("Report bytes", ","), ("Per turn", ".0f"), ("Start", ",.0f"))
 
 
 def counter() -> Counter | None:
@@ -73,26 +73,25 @@ def ran(name: str, workers: int, asked: Namespace) -> tuple[process.Took, tuple[
     words = "run", workers, asked.fuel, asked.batch
     with process.over(guests.GUESTS[name](), words) as (status, took, written):
         if status:
-            progress.clear()
-            print(f"{name}, {report.several(workers, 'worker')} ended with status {status}")
+            progress.say(f"{name}, {report.several(workers, 'worker')} ended with status {status}")
             return None
         return took, process.counts(written)
 
 
-def measure(name: str, workers: int, asked: Namespace, how: Counter | None, to: table.Table) -> bool:
-    """Runs one guest and prints its line. Says whether the program ended with status 0. Instructions
-    are those of one worker, since several share the work otherwise in each run."""
+def measure(name: str, workers: int, asked: Namespace, how: Counter | None, to: table.Table) -> None:
+    """Runs one guest and prints its line. Instructions are those of one worker, since several share the work
+    otherwise in each run."""
     runs = [one for one in (ran(name, workers, asked) for _ in range(asked.runs)) if one is not None]
     if len(runs) < asked.runs:
-        return False
+        to.failed = True
+        return
     took, (turns, blocks, size) = min(runs)
     each, start = instructions(name, asked, how) if workers == 1 else (None, None)
     to.row([name, workers, turns, blocks, took.seconds, turns / took.seconds, took.busy, took.peak, size, each, start],
            [one for one, _ in runs])
-    return True
 
 
-def main(words: list[str]) -> int | None:
+def main(words: list[str]) -> int:
     parser = process.words("run", __doc__, guests.GUESTS, "all")
     process.add_list(parser, "workers", [1], "1 to 8; of several numbers, as 1,4, each gets a line")
     process.add_number(parser, "batch", 0, "batch limit")
@@ -112,9 +111,6 @@ def main(words: list[str]) -> int | None:
     if how is None:
         print("Neither valgrind nor perf counts instructions here: those columns stay empty.")
     lines = [(name, workers) for name in names for workers in asked.workers]
-    done, to = [], table.Table("run", asked, COLUMNS)
-    with progress.Progress("bench run", "lines", len(lines)) as shown:
-        for name, workers in shown.each(lines):
-            done.append(measure(name, workers, asked, how, to))
-    shown.end()
-    return tool.DONE if all(done) else tool.WRONG
+    to = table.Table("run", asked, COLUMNS)
+    to.fill("lines", lines, lambda line: measure(line[0], line[1], asked, how, to))
+    return to.end()

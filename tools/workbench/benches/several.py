@@ -26,7 +26,7 @@ import tempfile
 import time
 from typing import Any, Iterator
 
-from .. import limits, progress, tool
+from .. import limits, tool
 from ..reports import report
 from . import guests, process, table
 
@@ -167,18 +167,15 @@ def measure_all(asked: Namespace) -> None:
                *((f"Processor: {one}" if one == each[0] else one, ".3f") for one in each), (f"Seconds, {of}", ".2f"),
                (f"Processor, {of}", ".2f"), (f"Clock, {of}", ".3f"), (f"Loop, {of}", ".2f"), (f"Shared loop, {of}", ".2f"),
                ("Rounds", "")]
-    to = table.Table("several", asked, [table.Column(*column) for column in columns])
-    names, ratios = asked.guests or USUAL, {}
+    to = table.Table("several", asked, columns)
     with tempfile.TemporaryDirectory() as folder:
         clock, loop = (process.compiled(source, folder, "-pthread") if shutil.which("cc") else None
                        for source in ("clock.c", "loop.c"))
-        with progress.Progress("bench several", "guests", len(names)) as shown:
-            for name in shown.each(names):
-                ratios[name] = measure(name, asked, clock, loop, to)
-    if not ratios:
-        return shown.end()
-    seconds, busy = ({name: pair[which] for name, pair in ratios.items()} for which in (0, 1))
-    told = "least" if asked.told is min else "median"
-    print(f"\nOn {len(os.sched_getaffinity(0))} processors, {told} of {asked.runs}, {of}: seconds {table.spread(seconds)}; "
-          f"processor seconds {table.spread(busy)}.")
-    shown.end()
+        names = asked.guests or USUAL
+        ratios = dict(to.fill("guests", names, lambda name: measure(name, asked, clock, loop, to)))
+    if ratios:
+        seconds, busy = ({name: pair[which] for name, pair in ratios.items()} for which in (0, 1))
+        told = "least" if asked.told is min else "median"
+        print(f"\nOn {len(os.sched_getaffinity(0))} processors, {told} of {asked.runs}, {of}: "
+              f"seconds {table.spread(seconds)}; processor seconds {table.spread(busy)}.")
+    to.end()

@@ -7,19 +7,19 @@ import os
 import platform
 import statistics
 import time
-from typing import IO, Any, Iterable, NamedTuple, Sequence
+from typing import Any, Callable, Iterable, NamedTuple, Sequence
 
 from .. import progress, tool
+
+
+class Failed(Exception):
+    """What was otherwise than it must be."""
 
 
 class Column(NamedTuple):
     """A column: its title, and how its numbers are written, as `.3f`."""
     title: str
     form: str = ""
-
-
-def cell(value: Any, form: str) -> str:
-    return "" if value is None else value if isinstance(value, str) else format(value, form)
 
 
 def line(cells: Iterable[str]) -> str:
@@ -29,13 +29,34 @@ def line(cells: Iterable[str]) -> str:
 class Table:
     """Prints a table row by row, and keeps the raw results of its rows where a file is asked for."""
 
-    def __init__(self, bench: str, asked: Any, columns: Sequence[Column], about: str = "") -> None:
-        self.columns, self.file = columns, kept(asked.results)
+    def __init__(self, bench: str, asked: Any, columns: Iterable[Sequence[str]]) -> None:
+        self.bench, self.columns, self.failed = bench, [Column(*column) for column in columns], False
+        with tool.writing(asked.results or ""):
+            self.file = open(asked.results, "w", encoding="utf-8") if asked.results is not None else None
         words = {name: value if isinstance(value, (int, float, list, type(None))) else str(value)
                  for name, value in vars(asked).items()}
-        self.keep({"bench": bench, "columns": columns, "about": about, "words": words, "when": time.strftime("%Y-%m-%d"),
-                   "processors": len(os.sched_getaffinity(0)), "machine": platform.machine()})
-        print("\n".join(head(columns)), flush=True)
+        self.keep({"bench": bench, "columns": self.columns, "about": "", "words": words,
+                   "when": time.strftime("%Y-%m-%d"), "processors": len(os.sched_getaffinity(0)),
+                   "machine": platform.machine()})
+        print("\n".join(head(self.columns)), flush=True)
+
+    def fill(self, what: str, pieces: Sequence[Any], measure: Callable[..., Any]) -> list[tuple[Any, Any]]:
+        """Has each piece of work measured, which gives the table its rows. Answers the pieces with what came of
+        them; of one that fails a line says why, under its guest's name."""
+        found = []
+        with progress.Progress(f"bench {self.bench}", what, len(pieces)) as self.shown:
+            for piece in self.shown.each(pieces):
+                try:
+                    found.append((piece, measure(piece)))
+                except Failed as why:
+                    self.failed = True
+                    progress.say(f"{piece if isinstance(piece, str) else piece[0]}: {why}")
+        return found
+
+    def end(self) -> int:
+        """Ends the tool where it was interrupted. Answers its status."""
+        self.shown.end()
+        return tool.WRONG if self.failed else tool.DONE
 
     def keep(self, record: dict[str, Any]) -> None:
         if self.file:
@@ -45,15 +66,7 @@ class Table:
     def row(self, cells: Sequence[Any], runs: Any = None) -> None:
         """A row of numbers and texts; `runs` is what each run took, of which they were made."""
         self.keep({"cells": cells, "runs": runs})
-        progress.clear()
-        print(row(self.columns, cells), flush=True)
-
-
-def kept(path: str | None) -> IO[str] | None:
-    if path is None:
-        return None
-    with tool.writing(path):
-        return open(path, "w", encoding="utf-8")
+        progress.say(row(self.columns, cells))
 
 
 def head(columns: Sequence[Column]) -> list[str]:
@@ -61,7 +74,7 @@ def head(columns: Sequence[Column]) -> list[str]:
 
 
 def row(columns: Sequence[Column], cells: Sequence[Any]) -> str:
-    return line(cell(value, column.form) for column, value in zip(columns, cells))
+    return line("" if value is None else format(value, column.form) for column, value in zip(columns, cells))
 
 
 def spread(ratios: dict[str, float]) -> str:

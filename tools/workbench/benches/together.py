@@ -13,13 +13,15 @@ import statistics
 import tempfile
 from typing import NamedTuple
 
-from .. import progress, tool
+from .. import tool
 from . import guests, process, table
 
 OWN = "counter", "bank", "buffer", "philosophers"  # of guests/
 FUEL, BATCH = 20000, 8
 GIVEN = {"all": None, "one": 1, "none": 0}  # threads of the host beside the first one
 BLOCK = re.compile(rb"(?m)^block .* kind (\w+) worker (\d+) ")
+COLUMNS = (("Guest",), ("Workers",), ("Threads",), ("Runs",), ("By several",), ("With adopted",), ("Median ms", ".1f"),
+           ("Least ms", ".1f"))
 
 
 class Ran(NamedTuple):
@@ -90,18 +92,10 @@ def main(words: list[str]) -> None:
     process.add_list(parser, "workers", [4, 8], "2 to 8; of several numbers each gets lines", 2)
     process.add_number(parser, "runs", 40, "of each")
     asked = process.parsed(parser, words, known)
-    every: dict[str, list[Ran]] = {kind: [] for kind in GIVEN}
     with tempfile.TemporaryDirectory() as folder:
-        host = Host(folder)
-        to = table.Table("together", asked, [*map(table.Column, (
-            "Guest", "Workers", "Threads", "Runs", "By several", "With adopted")), table.Column("Median ms", ".1f"),
-            table.Column("Least ms", ".1f")])
+        host, to = Host(folder), table.Table("together", asked, COLUMNS)
         lines = [(name, workers) for name in asked.guests or OWN for workers in asked.workers]
-        with progress.Progress("bench together", "of guests and workers", len(lines)) as shown:
-            for name, workers in shown.each(lines):
-                for kind, ran in measure(host, name, workers, asked.runs, to).items():
-                    every[kind] += ran
-    for kind, ran in every.items():
-        if ran:
-            sum_up(kind, ran)
-    shown.end()
+        found = to.fill("of guests and workers", lines, lambda line: measure(host, line[0], line[1], asked.runs, to))
+    for kind in GIVEN if found else ():
+        sum_up(kind, [one for _, ran in found for one in ran[kind]])
+    to.end()

@@ -82,7 +82,7 @@ def give_back(file: bytes, words: tuple[Any, ...], text: str, kept: str) -> list
     """Gives the history of a report back, and answers its blocks."""
     history, numbers = rejecting.history_of(text), words[-3:]
     blocks, _ = rejecting.read(history)
-    counted = rejecting.profile_text(model.Guest(file), blocks, numbers[0])
+    counted = rejecting.profile_text(legal.Run(model.Guest(file), *numbers), blocks)
     for form, wanted in ("replay", text), ("profile", counted):
         rejecting.ask(form, file, numbers, history, (tool.DONE, wanted), kept)
     return blocks

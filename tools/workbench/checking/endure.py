@@ -220,17 +220,14 @@ TRIALS = (runs_in_a_row, largest_guest, reader_that_ends, full_disk, closed_stre
 
 def tried(trial: Callable[[Place, int], str], folder: pathlib.Path, runs: int) -> bool:
     """Whether a trial went well."""
-    place = Place(folder)
+    place, failed = Place(folder), None
     try:
         said = trial(place, runs)
         place.is_clean()
     except (Wrong, subprocess.TimeoutExpired) as wrong:
-        progress.clear()
-        print(f"{getattr(trial, '__name__')}: FAILED: {wrong}", flush=True)
-        return False
-    progress.clear()
-    print(f"{getattr(trial, '__name__')}: passed, {said}", flush=True)
-    return True
+        failed = wrong
+    progress.say(f"{getattr(trial, '__name__')}: {f'FAILED: {failed}' if failed else f'passed, {said}'}")
+    return not failed
 
 
 def main(words: list[str]) -> int | None:

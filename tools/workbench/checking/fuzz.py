@@ -104,15 +104,6 @@ class Draw(random.Random):
         return made.elf(made.note(entries, guards, version), words, data, len(data) + self.randrange(9))
 
 
-def refusal(file: Any) -> Any:
-    """The line of its refusal, or None."""
-    try:
-        guestfile.check(file)
-    except guestfile.Refused as refused:
-        return refused.line
-    return None
-
-
 def judge(file: Any, options: Any, refused: Any) -> Any:
     """The report of a file, or None where it is refused. Wrong where the program answers otherwise."""
     status, text = program.run(("run", *options), file)
@@ -153,15 +144,15 @@ def main(words: list[str]) -> int | None:
             options = (draw.randrange(1, 9), draw.choice((20, 100, 300, 5000)), draw.choice((0, 1, 256)))
             given = [("whole", file), *((kind.__name__, kind(draw, file)) for kind in damage.KINDS)]
             for name, file in given:
-                refused = refusal(file)
+                refusal = guestfile.refusal(file)
+                refused = refusal and refusal.line
                 kept = f"fuzz-{asked.seed}-{number}-{name}"
                 try:
                     text = judge(file, options, refused)
                     rejected[text and judge_histories(file, options, text, changes, f"{kept}.txt")] += 1
                 except report.Wrong as wrong:
                     failed += 1
-                    progress.clear()
-                    print(f"{program.keep(f'{kept}.elf', file)}: run {' '.join(map(str, options))}: {wrong}")
+                    progress.say(f"{program.keep(f'{kept}.elf', file)}: run {' '.join(map(str, options))}: {wrong}")
                 seen[refused or ACCEPTED] += 1
     for what in sorted(seen, key=lambda what: int(what.split()[1]) if what != ACCEPTED else -1):
         print(f"{what}: {seen[what]}")

@@ -104,8 +104,7 @@ def refuse_each(library: pathlib.Path, case: Case, times: int, later: bool) -> t
             wrong = wrong_in(case, ended, kept)
             if wrong:
                 failed += 1
-                progress.clear()
-                print(f"{case.name}: allocation {number} {'and all later' if later else 'alone'}: {wrong}")
+                progress.say(f"{case.name}: allocation {number} {'and all later' if later else 'alone'}: {wrong}")
             runs += 1
             shown.reach(runs)
     statuses = ", ".join(f"{counts[status]} with status {status}" for status in sorted(counts))

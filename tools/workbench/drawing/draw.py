@@ -63,6 +63,4 @@ def main(words: list[str]) -> None:
     called = names.Names(text, asked.file)
     asked.title = asked.title or text.title()
     (asked.form or print_svg)(line, called, *window(asked, len(line.marks)), asked)
-    cut = text.cut_note()
-    if cut:
-        tool.note("draw", cut)
+    text.tell_cut("draw")

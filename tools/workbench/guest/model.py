@@ -248,9 +248,8 @@ class Machine:
             thread.x[to] = value % 2**32
         thread.pc = after % 2**32
 
-    def run_block(self, number: int) -> tuple[int, set[int], int | None, str]:
-        """One block of a thread: its number of turns, its locks, the lock that its first turn
-        took or None, and why it ended."""
+    def run_block(self, number: int) -> tuple[int, set[int], str]:
+        """One block of a thread: its number of turns, its locks, and why it ended."""
         thread, turns, end = self.threads[number], 0, None
         taken = self.next_lock(thread)
         locks = thread.held | ({taken} if taken is not None else set())
@@ -263,7 +262,7 @@ class Machine:
             elif end is None and turns == limits.TURNS:
                 end = "cut"
         thread.blocks += 1
-        return turns, locks, taken, end
+        return turns, locks, end
 
 
 def target(address: int) -> int:

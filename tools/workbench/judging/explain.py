@@ -19,13 +19,13 @@ from ..reports import counts, report
 from . import legal, reasons, tracing
 
 
-def explain_file(path: Any) -> None:
+def explain_file(path: str) -> None:
     """What a file has, or why it is refused."""
-    try:
-        file = guestfile.GuestFile(guestfile.read(path))
-    except guestfile.Refused as refused:
-        print(refused)
-        return
+    content = guestfile.read(path)
+    refused = guestfile.refusal(content)
+    if refused:
+        return print(refused)
+    file = guestfile.GuestFile(content)
     guest = file.guest
     for where, flags, _ in guest.ranges:
         print(f"range {guestfile.span(where)}: " + ("code" if flags & 1 else "writable" if flags & 2 else "read-only"))
@@ -63,9 +63,8 @@ class Explainer:
     def __init__(self, file: guestfile.GuestFile, text: report.Report, lines: Any, chosen: Chosen,
                  with_contexts: bool) -> None:
         self.file, self.text, self.lines, self.chosen = file, text, lines, chosen
-        self.run, self.away = legal.begin(file.guest, text), counts.Away(text.threads)
-        self.last: dict[Any, Any] = {}
-        self.contexts = tracing.Contexts(self.run.machine) if with_contexts else None
+        self.run, self.counts = legal.begin(file.guest, text), counts.Counts(text)
+        self.contexts = tracing.Contexts(self.run.machine, self.counts) if with_contexts else None
 
     def all(self) -> None:
         for block in self.text.blocks():
@@ -81,24 +80,22 @@ class Explainer:
 
     def block(self, block: report.Block) -> Iterator[str]:
         """Runs a block, and says what there is to say of it."""
-        thread, is_away = self.run.machine.threads[block.thread], self.away.is_away(block)
+        thread, came = self.run.machine.threads[block.thread], self.counts.threads[block.thread].before
         start, traced = reasons.start_text(self.file, thread, self.lines), []
         if block.stamp == self.chosen.trace and thread.end is None:
             traced = list(tracing.trace(self.run, self.file, self.lines, block.thread))
         moved = list(self.contexts.before(block)) if self.contexts else []
         batch = copy.copy(self.run.batches[block.begun]) if block.begun is not None and block.passed_on else None
         self.run.follow(block, f", line {self.text.lines.number}")
+        is_away = self.counts.add(block)
         yield f"{block.line(self.text.version)}  # {start}"
-        if batch:
-            yield f"  {reasons.delegation(block, batch, self.last[block.thread], is_away)}"
+        if batch and came:
+            yield f"  {reasons.delegation(block, batch, came, is_away)}"
         yield from (f"  {line}" for line in moved)
         yield from traced
         if block.ends_thread:
             held = f"; {report.locks_text(block.held)} broken" if block.held else ""
             yield f"  thread {block.thread}: {reasons.ending(self.file, thread, block.held)}{held}"
-        self.last[block.thread] = block
-        if self.contexts:
-            self.contexts.after(block)
 
 
 def explain_report(file: guestfile.GuestFile, text: report.Report, asked: argparse.Namespace) -> None:
@@ -120,13 +117,12 @@ def said_of(words: list[str]) -> str:
 
 def refusal(path: str, line: str) -> str:
     """What is said of a refusal's line, by the guest's file."""
-    try:
-        guestfile.check(guestfile.read(path))
-    except guestfile.Refused as refused:
-        if refused.line == line:
-            return str(refused)
+    refused = guestfile.refusal(guestfile.read(path))
+    if refused is None:
+        return f"the program said {line!r}, and {path} isn't refused: is it the same file, and whole?"
+    if refused.line != line:
         return f"the program said {line!r}, and this file is {refused}: is it the same file?"
-    return f"the program said {line!r}, and {path} isn't refused: is it the same file, and whole?"
+    return str(refused)
 
 
 def stamps(word: str) -> tuple[int, int]:

@@ -79,8 +79,9 @@ class Run:
     def __init__(self, guest: model.Guest, workers: int, fuel: int, limit: int, version: int = 2) -> None:
         self.workers, self.fuel, self.limit, self.version = workers, fuel, limit, version
         self.machine = model.Machine(guest, fuel)
+        self.threads, self.guards = len(guest.entries), len(guest.guards)
         self.batches = [Batch(limit) for _ in self.machine.locks]
-        self.stamps = [-1] * len(self.machine.threads)  # of each thread's last block
+        self.stamps = [-1] * self.threads  # of each thread's last block
         self.cut: dict[int, Block] = {}  # the last block of each worker whose last block was cut
         self.count = 0
 
@@ -122,21 +123,25 @@ class Run:
                            if lock is not None and kind in limits.SECTIONS else ""))
         kind = kind or allowed[0]
         pc = thread.pc
-        turns, locks, taken, end = self.machine.run_block(number)
+        turns, locks, end = self.machine.run_block(number)
         block = Block(self.count, number, turns, tuple(sorted(locks)), kind, worker,
                       pc if self.version == 2 else None, end)
-        if taken is not None:
-            self.batches[taken].begin(kind)
-        for batch in self.batches:
-            batch.see(block)
-        for released in block.released:
-            self.batches[released].release(block)
+        self.note(block)
         self.stamps[number] = block.stamp
         self.cut.pop(worker, None)
         if block.end == "cut":
             self.cut[worker] = block
         self.count += 1
         return block
+
+    def note(self, block: Block) -> None:
+        """Keeps the batch rule of each lock in step with a block that has run."""
+        if block.begun is not None:
+            self.batches[block.begun].begin(block.kind)
+        for batch in self.batches:
+            batch.see(block)
+        for released in block.released:
+            self.batches[released].release(block)
 
     def follow(self, block: Block, where: str = "") -> Block:
         """Runs the block that a line names, and compares the two."""
@@ -170,15 +175,17 @@ class Run:
             yield self.step(number, "taken" if taken else None, self.worker_for(number))
 
     def header_lines(self) -> list[str]:
-        return report.header_lines(self.version, len(self.machine.threads), len(self.machine.locks), self.workers,
-                                   self.fuel, self.limit)
+        return report.header_lines(self.version, self.threads, self.guards, self.workers, self.fuel, self.limit)
 
     def ending_lines(self) -> Iterator[str]:
         """The report's lines behind the blocks, for threads that have ended."""
-        for number, thread in enumerate(self.machine.threads):
+        threads, locks = self.machine.threads, self.machine.locks
+        for number, thread in enumerate(threads):
             if thread.end is None:
                 raise Wrong(f"behind block {self.count - 1}: thread {number} has not ended")
-        return ending_lines(self.machine)
+        return report.ending_lines(
+            [report.ThreadEnd(thread.end or "", thread.fuel, thread.pc, tuple(thread.x)) for thread in threads],
+            [report.LockEnd(lock.sections, lock.broken, lock.addresses.start, lock.bytes) for lock in locks])
 
     def lines(self, blocks: list[Block]) -> Iterator[str]:
         """A report of these blocks, to its end where each thread has ended."""
@@ -191,13 +198,6 @@ class Run:
         return all(thread.end is not None for thread in self.machine.threads)
 
 
-def ending_lines(machine: model.Machine) -> Iterator[str]:
-    """The report's lines behind the blocks, of a machine at its end."""
-    return report.ending_lines(
-        [report.ThreadEnd(thread.end or "", thread.fuel, thread.pc, tuple(thread.x)) for thread in machine.threads],
-        [report.LockEnd(lock.sections, lock.broken, lock.addresses.start, lock.bytes) for lock in machine.locks])
-
-
 def shown(name: str, block: Block) -> str | int:
     value = getattr(block, name)
     return report.held_text(value) if name == "held" else f"{value:08x}" if name == "pc" else value
@@ -206,8 +206,8 @@ def shown(name: str, block: Block) -> str | int:
 def begin(guest: model.Guest, text: report.Report) -> Run:
     """The run that a report's header names, for its guest."""
     run = Run(guest, text.workers, text.fuel, text.batch, text.version)
-    for name, said, real in (("threads", text.threads, len(run.machine.threads)),
-                             ("guards", text.guards, len(run.machine.locks))):
+    for name in "threads", "guards":
+        said, real = getattr(text, name), getattr(run, name)
         if said != real:
             raise Wrong(f"line 2: the report is of {said} {name}, and the guest has {real}")
     return run

@@ -8,7 +8,6 @@ from __future__ import annotations
 
 import itertools
 import re
-import types
 from typing import Any, Iterable
 
 from .. import limits, tool
@@ -55,12 +54,8 @@ def read(text: bytes) -> tuple[list[report.Block], int | None]:
     return blocks, None
 
 
-class Checker:
-    """A guest's machine behind some blocks."""
-
-    def __init__(self, guest: model.Guest, workers: int, fuel: int, limit: int) -> None:
-        self.workers, self.machine = workers, model.Machine(guest, fuel)
-        self.batches = [legal.Batch(limit) for _ in guest.guards]
+class Checker(legal.Run):
+    """A run whose blocks are given, and looked at for the seven reasons alone."""
 
     def wrong(self, block: report.Block) -> str | None:
         """Runs a block. Answers the first reason for which it is wrong, or None."""
@@ -71,16 +66,13 @@ class Checker:
         lock, pc, is_first = self.machine.next_lock(thread), thread.pc, thread.blocks == 0
         if lock is not None and self.machine.locks[lock].owner is not None:
             return OWNER
-        turns, held, _, end = self.machine.run_block(block.thread)
+        turns, held, end = self.machine.run_block(block.thread)
         if (block.turns, block.held, block.pc, block.end) != (turns, tuple(sorted(held)), pc, end):
             return BLOCK
         kinds = ("start" if is_first else "on",) if lock is None else limits.SECTIONS
         if block.kind not in kinds or (lock is not None and not self.allows(self.batches[lock], block)):
             return KIND
-        if lock is not None:
-            self.batches[lock].begin(block.kind)
-        for released in block.released:
-            self.batches[released].release(block)
+        self.note(block)
         return WORKER if block.worker >= self.workers else None
 
     @staticmethod
@@ -98,16 +90,12 @@ class Checker:
             why = self.wrong(block)
             if why:
                 return number, why
-        return (len(blocks) + 1, INCOMPLETE) if any(thread.end is None for thread in self.machine.threads) else None
+        return None if self.is_over() else (len(blocks) + 1, INCOMPLETE)
 
 
-def profile_text(guest: model.Guest, blocks: list[report.Block], workers: int) -> str:
-    """What `profile` prints of blocks that are not rejected."""
-    counted = counts.Counts(types.SimpleNamespace(threads=len(guest.entries), guards=len(guest.guards), workers=workers,
-                                                  thread_ends=(), lock_ends=()))
-    for block in blocks:
-        counted.add(block)
-    return text_of(counted.profile_lines())
+def profile_text(run: legal.Run, blocks: list[report.Block]) -> str:
+    """What `profile` prints of a run's blocks, which are not rejected."""
+    return text_of(counts.counted(run, blocks).profile_lines())
 
 
 def text_of(lines: Iterable[str]) -> str:
@@ -120,11 +108,8 @@ def refused_line(size: int, given: bytes) -> str | None:
         return "refused 0 TooLarge"
     if len(given) < size:
         return "refused 17 ShortInput"
-    try:
-        guestfile.check(given[:size])
-    except guestfile.Refused as refused:
-        return refused.line
-    return None
+    refused = guestfile.refusal(given[:size])
+    return refused.line if refused else None
 
 
 class Given:
@@ -141,9 +126,8 @@ class Given:
         refused = refused_line(size, given)
         if refused:
             return tool.WRONG, text_of([refused])
-        self.guest = model.Guest(given[:size])
         self.blocks, wrong = read(given[size:])
-        self.checker = Checker(self.guest, *self.numbers)
+        self.checker = Checker(model.Guest(given[:size]), *self.numbers)
         rejected = (wrong, TEXT) if wrong else self.checker.rejected(self.blocks)
         if rejected is None:
             return None
@@ -155,10 +139,8 @@ class Given:
         if self.early:
             return self.early
         if form == "profile":
-            return tool.DONE, profile_text(self.guest, self.blocks, self.numbers[0])
-        header = report.header_lines(2, len(self.guest.entries), len(self.guest.guards), *self.numbers)
-        blocks = (block.line(2) for block in self.blocks)
-        return tool.DONE, text_of(itertools.chain(header, blocks, legal.ending_lines(self.checker.machine)))
+            return tool.DONE, profile_text(self.checker, self.blocks)
+        return tool.DONE, text_of(self.checker.lines(self.blocks))
 
 
 def history_of(text: str) -> bytes:

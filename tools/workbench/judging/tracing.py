@@ -10,7 +10,7 @@ from typing import Any, Iterator
 
 from .. import limits
 from ..guest import guestfile, model, rv32im
-from ..reports import report
+from ..reports import counts, report
 from . import legal, reasons
 
 
@@ -96,39 +96,29 @@ class Context:
 
 
 class Contexts:
-    """Follows which worker has each context and each lock, and counts what moves."""
+    """Counts what moves of the contexts and the locks of a run, whose blocks so far are counted."""
 
-    def __init__(self, machine: model.Machine) -> None:
-        self.machine = machine
+    def __init__(self, machine: model.Machine, counted: counts.Counts) -> None:
+        self.machine, self.counted = machine, counted
         self.counts: Counter[str] = Counter()
-        self.last: list[report.Block | None] = [None] * len(machine.threads)
-        self.workers: list[int | None] = [None] * len(machine.locks)
 
     def before(self, block: report.Block) -> Iterator[str]:
         """What is said of a block that is about to run: of its context and of its lock, where they move
         or where the lock stays and the context comes to it."""
-        last = self.last[block.thread]
+        last = self.counted.threads[block.thread].before
         came = last is not None and last.worker != block.worker
         if last is not None and came:
             context = Context(self.machine, self.machine.threads[block.thread], last.kept)
-            self.count(context)
+            self.counts.update(contexts=1, registers=len(context.registers), stack=context.stack, data=context.data)
             yield f"context of thread {block.thread} from worker {last.worker} to worker {block.worker}: {context.text()}"
         for lock in block.held:
-            worker, size = self.workers[lock], len(self.machine.locks[lock].bytes)
+            worker, size = self.counted.locks[lock].worker, len(self.machine.locks[lock].bytes)
             if worker is not None and worker != block.worker:
                 self.counts["moves"] += 1
                 self.counts["guarded"] += size
                 yield f"lock {lock}, {report.several(size, 'byte')}, from worker {worker} to worker {block.worker}"
             elif came and lock == block.begun and worker is not None:
                 yield f"lock {lock}, {report.several(size, 'byte')}, stays with worker {worker}"
-
-    def count(self, context: Context) -> None:
-        self.counts.update(contexts=1, registers=len(context.registers), stack=context.stack, data=context.data)
-
-    def after(self, block: report.Block) -> None:
-        self.last[block.thread] = block
-        for lock in block.held:
-            self.workers[lock] = block.worker
 
     def total(self) -> str:
         counts = self.counts

@@ -7,7 +7,7 @@ import json
 import sys
 import types
 from collections import Counter
-from typing import Any, Iterator
+from typing import Any, Iterable, Iterator
 
 from .. import limits, tool
 from ..limits import SECTIONS
@@ -187,14 +187,14 @@ class Counts:
         yield "end"
 
     def lock_row(self, number: int, lock: LockCounts) -> dict[str, Any]:
-        ends = self.text.lock_ends
+        ends = getattr(self.text, "lock_ends", ())
         return {"lock": number, "sections": lock.sections, **{kind: lock.kinds[kind] for kind in SECTIONS},
                 "longest": lock.longest, "changes": lock.changes, "home": lock.home, "away": lock.away,
                 "waiting": lock.waiting, "longest_wait": lock.longest_wait, "fairness": lock.fairness,
                 "turns": lock.turns, "broken": ends[number].broken if number < len(ends) else None}
 
     def thread_row(self, number: int, thread: ThreadCounts) -> dict[str, Any]:
-        ends = self.text.thread_ends
+        ends = getattr(self.text, "thread_ends", ())
         end = ends[number] if number < len(ends) else None
         return {"thread": number, "blocks": thread.blocks, "turns": thread.turns, "moves": thread.moves,
                 "turns_held": thread.held, "away": thread.away, "sleeps": thread.sleeps,
@@ -203,13 +203,12 @@ class Counts:
                 "x10": end.x[10] if end and len(end.x) == 32 else None}
 
 
-def read(path: str) -> Counts:
-    text = report.Report(tool.read_lines(path))
-    counted = Counts(text)
-    for block in text.blocks():
-        counted.add(block)
-    text.ends()
-    return counted
+def counted(text: Any, blocks: Iterable[report.Block]) -> Counts:
+    """The counts of some blocks, of a report or a run."""
+    found = Counts(text)
+    for block in blocks:
+        found.add(block)
+    return found
 
 
 def print_text(counted: Counts) -> None:
@@ -255,7 +254,8 @@ def main(words: list[str]) -> None:
                        const=lambda counted: print(*counted.profile_lines(), sep="\n"),
                        help="what the program prints of the history with `profile`")
     asked = parser.parse_args(words)
-    counted = read(asked.report)
-    (asked.form or print_text)(counted)
-    if counted.text.cut_note():
-        tool.note("summary", counted.text.cut_note())
+    text = report.Report(tool.read_lines(asked.report))
+    found = counted(text, text.blocks())
+    text.ends()
+    (asked.form or print_text)(found)
+    text.tell_cut("summary")

@@ -310,9 +310,8 @@ class Report:
         return ", ".join((several(self.threads, "thread"), several(self.guards, "lock"),
                           several(self.workers, "worker"), f"fuel {self.fuel}", f"batch limit {self.batch}"))
 
-    def cut_note(self) -> str | None:
-        """What to say of a report that stops early, or None."""
-        if self.whole:
-            return None
-        return (f"the report stops behind line {self.lines.number - 1}, without the line 'end'; "
-                "what it has up to there is used")
+    def tell_cut(self, name: str) -> None:
+        """Says of a report that stops early where it does, for a tool."""
+        if not self.whole:
+            tool.note(name, f"the report stops behind line {self.lines.number - 1}, without the line 'end'; "
+                      "what it has up to there is used")

@@ -77,24 +77,19 @@ class Timeline:
         self.text = text
         self.marks, self.gaps, self.handings = [], [], []  # type: list[Mark], list[Gap], list[Stay]
         self.counts = counts.Counts(text)
-        self.last: list[report.Block | None] = [None] * text.threads
         self.released: list[report.Block | None] = [None] * text.guards  # the block that released the lock last
-        self.workers: list[int | None] = [None] * text.guards  # the worker of the lock's last block
 
     def add(self, block: report.Block) -> None:
+        before = self.counts.threads[block.thread].before
+        moved = tuple(lock for lock in block.held if self.counts.locks[lock].worker not in (None, block.worker))
         away = self.counts.add(block)
-        before = self.last[block.thread]
         if before is not None and before.stamp + 1 < block.stamp:
             self.add_gap(before, block)
         release = self.released[block.begun] if block.begun is not None and block.passed_on else None
         if release is not None:
             self.add_handing(release, before, block)
-        moved = tuple(lock for lock in block.held if self.workers[lock] not in (None, block.worker))
-        for lock in block.held:
-            self.workers[lock] = block.worker
         for lock in block.released:
             self.released[lock] = block
-        self.last[block.thread] = block
         self.marks.append(Mark(block, away, before if block.passed_on else None, release, moved))
 
     def add_gap(self, before: report.Block, block: report.Block) -> None:
@@ -129,7 +124,7 @@ class Timeline:
     def close(self) -> None:
         """Adds what threads want at the end of a report that was cut."""
         end = len(self.marks) - 1
-        for block in self.last:
+        for block in (thread.before for thread in self.counts.threads):
             if block is not None and block.stamp < end and block.wanted is not None:
                 self.gaps.append(Gap(block.thread, block.stamp + 1, end, WANTS, block.kept, block.wanted))
 

@@ -22,7 +22,6 @@ import os
 import signal
 import sys
 import time
-import types
 from typing import Any, Callable, Dict, Iterable, Iterator, List, NamedTuple, Optional, Tuple
 
 from .. import limits, progress, tool
@@ -87,8 +86,7 @@ def numbers(least: int, most: int) -> Callable[[str], List[int]]:
 
 def counted(setting: Setting, shape: Any, blocks: Iterable[report.Block], seconds: str = "") -> Result:
     """The result of a run's blocks; its shape has the numbers of threads, locks and workers."""
-    result = counts.Counts(shape)
-    owners = [bytearray() for _ in range(shape.guards)]
+    result, owners = counts.Counts(shape), [bytearray() for _ in range(shape.guards)]
     for block in blocks:
         result.add(block)
         if block.begun is not None:
@@ -117,8 +115,7 @@ def by_model(job: Tuple[bytes, Setting]) -> Result:
     file, setting = job
     run, blocks = delegation.delegated(model.Guest(file), setting.fuel, setting.workers, setting.batch, setting.seed or 0,
                                        nodes=setting.nodes, bound=setting.bound)
-    shape = types.SimpleNamespace(threads=len(run.machine.threads), guards=len(run.machine.locks), workers=run.workers)
-    return counted(setting, shape, blocks)
+    return counted(setting, run, blocks)
 
 
 def results(file: bytes, settings: List[Setting]) -> Iterator[Result]:
