@@ -25,7 +25,8 @@ from tools.workbench.reports import report
 from tools.workbench.running import delegation, program
 
 ROOT, GUESTS, COURSE = places.ROOT, places.GUESTS, places.COURSE
-NAMES = sorted(json.loads((GUESTS / "facts.json").read_text()))
+FACTS = json.loads((GUESTS / "facts.json").read_text())
+NAMES = sorted(FACTS)
 FOLDER = tempfile.TemporaryDirectory()
 TEMPORARY = pathlib.Path(FOLDER.name)
 
@@ -111,8 +112,7 @@ def elf(name: str) -> str:
 
 def run(tool: str, *words: pathlib.Path | str, given: bytes | str = b"", stdout: IO[bytes] | None = None,
         by: str | None = None) -> subprocess.CompletedProcess[bytes]:
-    """Runs a tool by a copy of this process, which has the modules already; `by` is another program than the
-    built one."""
+    """Runs a tool by a copy of this process, which has the modules; `by` stands for the built program."""
     given, asked = given if isinstance(given, bytes) else given.encode(), [*tool.split(), *map(str, words)]
     with tempfile.TemporaryFile() as read, tempfile.TemporaryFile() as out, tempfile.TemporaryFile() as said:
         read.write(given)
@@ -145,6 +145,11 @@ def run(tool: str, *words: pathlib.Path | str, given: bytes | str = b"", stdout:
             file.seek(0)
         status = os.WEXITSTATUS(status) if os.WIFEXITED(status) else -os.WTERMSIG(status)
         return subprocess.CompletedProcess(asked, status, None if stdout else out.read(), said.read())
+
+
+def process(*words: Any, **more: Any) -> subprocess.CompletedProcess[bytes]:
+    """Runs a process of its own to its end."""
+    return subprocess.run(words, check=False, capture_output=True, **more)
 
 
 GUEST = saved("one.elf", built(ONE, (0, 0), 1))
@@ -225,8 +230,7 @@ class Folder(unittest.TestCase):
 
     def shell(self, text: str) -> subprocess.CompletedProcess[bytes]:
         """Runs a line of the shell, in which $0 is the command."""
-        return subprocess.run(["sh", "-c", text, self.root / "tclocks"], input=b"x", env=self.environment,
-                              capture_output=True, check=False)
+        return process("sh", "-c", text, self.root / "tclocks", input=b"x", env=self.environment)
 
     def command(self, *words: str, given: bytes = b"", **more: Any) -> tuple[int, bytes, str]:
         """The status, the output and what was said."""
@@ -254,4 +258,4 @@ class Folder(unittest.TestCase):
         return sorted(path.name for path in (self.root / "tmp").iterdir())
 
     def running(self, what: str) -> str:
-        return subprocess.run(["pgrep", "-f", f"sh {self.root}/{what}"], check=False, stdout=subprocess.PIPE).stdout.decode()
+        return process("pgrep", "-f", f"sh {self.root}/{what}").stdout.decode()

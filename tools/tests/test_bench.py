@@ -7,7 +7,6 @@ import json
 import pathlib
 import re
 import shutil
-import subprocess
 import sys
 import unittest
 import xml.etree.ElementTree
@@ -16,11 +15,12 @@ from typing import Any
 from tools.workbench.benches import guests
 from tools.workbench.guest import guestfile
 from tools.workbench.running import delegation
-from .common import BY_HAND, GUEST, GUESTS, MADE_UP, NAMES, ROOT, TEMPORARY, Case, elf, run, saved, script
+from .common import GUEST, GUESTS, MADE_UP, NAMES, ROOT, TEMPORARY, Case, elf, process, run, saved, script
 
 
 BENCHES = {"run": (), "nodes": ("4", "100", "8"), "replay": (), "peer": (), "several": (), "together": ()}
 PROGRAM = script("measured", MADE_UP)
+QUICK = "--workers 1 --batch 0 --runs 1 --model"
 COMPILER = unittest.skipUnless(shutil.which("cc"), "there is no C compiler")
 
 
@@ -60,8 +60,7 @@ exec {ROOT}/workbench run - "$@" --seed 1 $orders 2>/dev/null
                                    "Other node", "Seconds"])
         words = ["`run`", *(f"`nodes {nodes} {bound}`" for nodes in (1, 2) for bound in (0, 4, 256))]
         self.assertEqual([row[:2] for row in rows[2:]], [[name, word] for name in ("counter", "hot-lock") for word in words])
-        swept = self.well("sweep", elf("counter"), "--workers", "2", "--batch", "8", "--nodes", "0,1,2",
-                          "--bound", "0,4,256", "--runs", "1", "--fuel", "200", by=by)
+        swept = self.well("sweep --workers 2 --batch 8 --nodes 0,1,2 --bound 0,4,256 --runs 1 --fuel 200", elf("counter"), by=by)
         names = "taken", "adopted", "granted", "changes", "changes_of_node", "other_node"
         self.assertEqual([row[2:8] for row in rows[2:9]],
                          [[row[name] for name in names] for row in csv.DictReader(swept.splitlines())])
@@ -73,8 +72,7 @@ exec {ROOT}/workbench run - "$@" --seed 1 $orders 2>/dev/null
         for line in told:
             self.assertIn("prints another report than the run's", line)
         # One worker runs a thread after another: each has its own first block, and then takes and gives the lock.
-        text = run("run", "-", "1", "20", "0", "--seed", "0",
-                   given=guests.GUESTS["hot-lock"]()).stdout.decode()
+        text = run("run - 1 20 0 --seed 0", given=guests.GUESTS["hot-lock"]()).stdout.decode()
         history = "".join(line for line in text.splitlines(keepends=True) if line.startswith("block "))
         self.assertEqual(rows[2][1:3], [f"{history.count(chr(10)):,}", f"{len(history):,}"])
 
@@ -91,8 +89,7 @@ exec {ROOT}/workbench run - "$@" --seed 1 $orders 2>/dev/null
 
     def test_several(self) -> None:
         rows, told = self.table("several", "-r", "1", "-f", "20", "-w", "2,1", "hot-lock", "own-locks")
-        names = (f"{what}, 2 workers to 1 worker"
-                 for what in ("Seconds", "Processor", "Clock", "Loop", "Shared loop"))
+        names = (f"{what}, 2 workers to 1 worker" for what in ("Seconds", "Processor", "Clock", "Loop", "Shared loop"))
         self.assertEqual(rows[0], ["Guest", "Seconds: 1 worker", "2 workers", "Processor: 1 worker", "2 workers",
                                    *names, "Rounds"])
         self.assertEqual([(row[0], len(row), row[10]) for row in rows[2:]],
@@ -101,8 +98,6 @@ exec {ROOT}/workbench run - "$@" --seed 1 $orders 2>/dev/null
                          [[bool(shutil.which("cc"))] * 3] * 2)
         self.assertEqual(len(told), 1)
         self.assertIn("least of 1, 2 workers to 1 worker", told[0])
-
-    def test_several_by_medians(self) -> None:
         rows, told = self.table("several", "-m", "-r", "3", "-f", "20", "-w", "1,2", "hot-lock")
         self.assertEqual([(row[0], row[10]) for row in rows[2:]], [("hot-lock", "3 of 3")])
         self.assertIn("median of 3, 2 workers to 1 worker", told[0])
@@ -114,8 +109,7 @@ exec {ROOT}/workbench run - "$@" --seed 1 $orders 2>/dev/null
             self.assertEqual([row[10] for row in self.table("several", *more, *words)[0][2:]], ["1 of 1"])
         # No two threads take less time than one.
         done = run("bench several", "-p", PROGRAM, "-q", "0.01", "-w", "1,2", *words)
-        self.one_line(done, 2,
-                      "workbench bench several: hot-lock: the processors were not free in one of 30 rounds\n")
+        self.one_line(done, 2, "bench several: hot-lock: the processors were not free in one of 30 rounds\n")
 
     @COMPILER
     def test_together(self) -> None:
@@ -139,11 +133,7 @@ exec {ROOT}/workbench run - "$@" --seed 1 $orders 2>/dev/null
         rows, told = self.table("peer", "-r", "1", "-f", "100", *names)
         # 16 threads: 100 turns and a spent one
         self.assertEqual([row[:2] for row in rows[2:]], [[name, "1,616"] for name in names])
-        self.assertEqual(len(told), 1)
-        self.assertTrue(told[0].startswith("Of 4 guests of bench/, "))
-
-    @COMPILER
-    def test_peer_and_what_is_known_of_guests(self) -> None:
+        self.assertEqual([line[:24] for line in told], ["Of 4 guests of bench/, t"])
         rows, _ = self.table("peer", "-r", "1", "-f", "20000", "counter", "faults")
         self.assertEqual([row[1] for row in rows[2:]], ["6,848", "62"])
 
@@ -156,19 +146,17 @@ exec {ROOT}/workbench run - "$@" --seed 1 $orders 2>/dev/null
     @COMPILER
     def test_peer_and_together_without_a_compiler(self) -> None:
         for name in "peer", "together":
-            done = subprocess.run([sys.executable, ROOT / "workbench.py", "bench", name, "-p", PROGRAM],
-                                  env={"PATH": "/no/such/folder"}, capture_output=True, check=False)
-            self.one_line(done, 2, "cc is not on the PATH")
+            words = sys.executable, ROOT / "workbench.py", "bench", name, "-p", PROGRAM
+            self.one_line(process(*words, env={"PATH": "/no/such/folder"}), 2, "cc is not on the PATH")
 
     @COMPILER
     def test_the_peer_refuses(self) -> None:
         peer, file = TEMPORARY / "peer", pathlib.Path(elf("counter")).read_bytes()
-        subprocess.run(["cc", "-O2", "-pthread", "-o", peer, ROOT / "tools/workbench/benches/peer.c"],
-                       check=True)
+        process("cc", "-O2", "-pthread", "-o", peer, ROOT / "tools/workbench/benches/peer.c")
         for given in b"", file[:80], bytes(100):
-            done = subprocess.run([peer, "100"], input=given, capture_output=True, check=False)
+            done = process(peer, "100", input=given)
             self.assertEqual((done.returncode, done.stdout, done.stderr), (3, b"", b"peer: this is no guest\n"))
-        done = subprocess.run([peer], capture_output=True, check=False)
+        done = process(peer)
         self.assertEqual((done.returncode, done.stderr), (1, b"peer: usage: peer FUEL [history] < GUEST\n"))
 
 
@@ -176,15 +164,19 @@ def table(done: Any) -> Any:
     return list(csv.DictReader(done.stdout.decode().splitlines()))
 
 
+def swept(words: str, name: str, *more: str) -> Any:
+    """The rows of a sweep of a guest by the model."""
+    return table(run(f"sweep --model {words}", elf(name), *more))
+
+
 class Sweep(Case):
     def test_each_line_is_the_run_of_its_seed(self) -> None:
-        done = run("sweep", elf("philosophers"), "--workers", "1,4", "--batch", "0,8", "--runs", "2", "--model", "--seed", "9")
-        rows = table(done)
+        rows = swept("--workers 1,4 --batch 0,8 --runs 2 --seed 9", "philosophers")
         self.assertEqual([(row["workers"], row["batch"], row["run"]) for row in rows],
                          [(w, b, r) for w in "14" for b in "08" for r in "12"])
         for row in rows:
-            text = run("simulate", elf("philosophers"), row["workers"], row["fuel"], row["batch"],
-                       "--seed", row["seed"]).stdout
+            words = row["workers"], row["fuel"], row["batch"], "--seed", row["seed"]
+            text = run("simulate", elf("philosophers"), *words).stdout
             locks = json.loads(run("summary", "-", "--json", given=text).stdout)["by_lock"]
             for name in ("sections", "taken", "adopted", "granted", "changes", "home", "away", "waiting"):
                 self.assertEqual(int(row[name]), sum(lock[name] for lock in locks), name)
@@ -195,27 +187,25 @@ class Sweep(Case):
             self.assertEqual(int(row["blocks"]), text.count(b"\nblock "))
 
     def test_standard_input(self) -> None:
-        words = ("--workers", "1", "--batch", "0", "--runs", "1", "--model")
-        done = run("sweep", "-", *words, given=(GUESTS / "first.elf").read_bytes())
-        self.assertEqual(done.stdout.replace(b"\n-,", b"\nfirst.elf,"), run("sweep", elf("first"), *words).stdout)
+        done = run(f"sweep {QUICK} -", given=(GUESTS / "first.elf").read_bytes())
+        self.assertEqual(done.stdout.replace(b"\n-,", b"\nfirst.elf,"), run(f"sweep {QUICK}", elf("first")).stdout)
 
     def test_a_line_for_each_lock(self) -> None:
-        rows = table(run("sweep", elf("philosophers"), "--workers", "2", "--batch", "1", "--runs", "1", "--model", "--locks"))
+        rows = swept("--workers 2 --batch 1 --runs 1 --locks", "philosophers")
         self.assertEqual([(row["lock"], row["sections"]) for row in rows],
                          [(str(lock), "24") for lock in range(5)] + [("5", "60")])
 
     def test_what_batch_limits_say(self) -> None:
         """With 0 nothing is adopted; with B no row is longer, and the data stays."""
-        rows = {row["batch"]: row for row in table(run(
-            "sweep", elf("counter"), "--workers", "4", "--batch", "0,1,256", "--runs", "1", "--model"))}
+        rows = {row["batch"]: row for row in swept("--workers 4 --batch 0,1,256 --runs 1", "counter")}
         self.assertEqual((rows["0"]["adopted"], rows["0"]["rows"], rows["1"]["longest"]), ("0", "0", "1"))
         self.assertLessEqual(int(rows["256"]["granted"]), 480 // 257)
         self.assertLess(10 * int(rows["256"]["changes"]), int(rows["0"]["changes"]))
 
     def test_nodes(self) -> None:
         """With one node nobody is on another one; more nodes than workers are left out; each run is that of guests/run."""
-        words = ("--workers", "2,4", "--batch", "8", "--nodes", "0,1,2,4", "--bound", "0,3", "--runs", "1", "--model")
-        rows = table(run("sweep", elf("counter"), *words, "--plot", str(TEMPORARY / "nodes.svg")))
+        rows = swept("--workers 2,4 --batch 8 --nodes 0,1,2,4 --bound 0,3 --runs 1", "counter",
+                     "--plot", str(TEMPORARY / "nodes.svg"))
         self.assertEqual([(row["workers"], row["nodes"], row["bound"]) for row in rows],
                          [("2", "", "")] + [("2", n, k) for n in "12" for k in "03"]
                          + [("4", "", "")] + [("4", n, k) for n in "124" for k in "03"])
@@ -244,7 +234,7 @@ class Sweep(Case):
             self.assertEqual(found, wanted, (nodes, bound))
 
     def test_a_guest_without_locks(self) -> None:
-        row, = table(run("sweep", elf("exit"), "--workers", "1", "--batch", "0", "--runs", "1", "--model"))
+        row, = swept(QUICK, "exit")
         self.assertEqual((row["sections"], row["longest"], row["blocks"], row["turns"]), ("0", "0", "1", "2"))
 
     def test_by_the_program(self) -> None:
@@ -264,35 +254,27 @@ class Sweep(Case):
     def test_each_guest(self) -> None:
         for name in NAMES:
             words = [] if name == "exit" else ["--strips", str(TEMPORARY / f"{name}.svg")]
-            done = run("sweep", elf(name), "--workers", "3", "--batch", "2", "--runs", "1", "--fuel", "600", "--model",
-                       "--plot", str(TEMPORARY / f"{name}-plot.svg"), *words)
+            words += ["--plot", str(TEMPORARY / f"{name}-plot.svg")]
+            done = run("sweep --workers 3 --batch 2 --runs 1 --fuel 600 --model", elf(name), *words)
             self.assertEqual((done.returncode, done.stderr, len(table(done))), (0, b"", 1), name)
 
     def test_pictures(self) -> None:
         plot, strips = TEMPORARY / "plot.svg", TEMPORARY / "strips.svg"
         for name in ("counter", "philosophers", "first"):
-            done = run("sweep", elf(name), "--workers", "1,3", "--batch", "0,2,256", "--runs", "2", "--model",
-                       "--plot", str(plot), "--strips", str(strips), "--sections", "100")
-            self.assertEqual(done.returncode, 0)
+            rows = swept("--workers 1,3 --batch 0,2,256 --runs 2 --sections 100", name, "--plot", str(plot),
+                         "--strips", str(strips))
             for path in (plot, strips):
                 text = path.read_text()
                 xml.etree.ElementTree.fromstring(text)
                 self.assertNotIn("<script", text)
             self.assertNotIn("Seconds", plot.read_text())
         moved = re.findall(r"in (\d+) sections the lock changed its worker (\d+) times", strips.read_text())
-        rows = [row for row in table(done) if row["run"] == "1"]
-        self.assertEqual(moved, [(row["sections"], row["changes"]) for row in rows])
-
-    def test_strips_on_paper(self) -> None:
-        """The two sections of a guest that counts once are of worker 0 alone."""
-        path = TEMPORARY / "paper.svg"
-        run("sweep", GUEST, "--workers", "1", "--batch", "0", "--runs", "1", "--model",
-            "--strips", str(path))
-        self.assertIn("worker 0: 2 of these sections, in 1 stretch<", path.read_text())
+        self.assertEqual(moved, [(row["sections"], row["changes"]) for row in rows if row["run"] == "1"])
+        # The two sections of a guest that counts once are of worker 0 alone.
+        run(f"sweep {QUICK}", GUEST, "--strips", strips)
+        self.assertIn("worker 0: 2 of these sections, in 1 stretch<", strips.read_text())
 
     def test_wrong_files(self) -> None:
-        quick = ("--workers", "1", "--batch", "0", "--runs", "1", "--model")
-        self.one_line(run("sweep", saved("text.elf", BY_HAND)), 3)
         for option in ("--plot", "--strips"):
-            self.one_line(run("sweep", elf("first"), *quick, option, "/no/such/folder/x.svg"), 4)
-        self.full("sweep", elf("first"), *quick)
+            self.one_line(run(f"sweep {QUICK}", elf("first"), option, "/no/such/folder/x.svg"), 4)
+        self.full(f"sweep {QUICK}", elf("first"))

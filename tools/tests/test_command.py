@@ -16,7 +16,7 @@ import tempfile
 import time
 import unittest
 
-from .common import ROOT, Folder
+from .common import ROOT, Folder, process
 
 
 # The program's own line.
@@ -114,8 +114,7 @@ class Unproved(Folder):
     def test_only_a_run_reads(self) -> None:
         with subprocess.Popen(["sleep", "30"], stdout=subprocess.PIPE) as silent:
             for words in (("demo", "1", "1"), ("gen", "1")):
-                done = subprocess.run([self.root / "tclocks", *words], stdin=silent.stdout, env=self.environment,
-                                      capture_output=True, timeout=20, check=False)
+                done = process(self.root / "tclocks", *words, stdin=silent.stdout, env=self.environment, timeout=20)
                 self.assertEqual((done.returncode, done.stdout), (0, b"sources: " + " ".join(words).encode() + b"\n"))
             silent.kill()
 
@@ -223,8 +222,7 @@ class Rules(unittest.TestCase):
         self.assertGreater(len(lists), 30)
         for listed in lists:
             words = [ast.literal_eval(word) for word in re.findall(r"b\"[^\"]*\"", listed)]
-            done = subprocess.run([ROOT / "tclocks", *words], stdin=subprocess.DEVNULL, capture_output=True, check=False,
-                                  env={"PATH": "/usr/bin:/bin"})
+            done = process(ROOT / "tclocks", *words, stdin=subprocess.DEVNULL, env={"PATH": "/usr/bin:/bin"})
             self.assertEqual((done.returncode, done.stdout, done.stderr), (1, USAGE, b""), words)
 
     def test_the_built_program_answers_so(self) -> None:
@@ -232,16 +230,13 @@ class Rules(unittest.TestCase):
         if not program.exists():
             self.skipTest("the program is not built")
         for words in WRONG:
-            done = subprocess.run([program, *words.split(" ") * (words != "")], stdin=subprocess.DEVNULL,
-                                  capture_output=True, check=False)
+            done = process(program, *words.split(" ") * (words != ""), stdin=subprocess.DEVNULL)
             self.assertEqual((done.returncode, done.stdout, done.stderr), (1, USAGE, b""), words)
         for words in FORMS:
-            done = subprocess.run([program, *words.split()], stdin=subprocess.DEVNULL, capture_output=True, check=False)
-            self.assertNotEqual(done.returncode, 1, words)
+            self.assertNotEqual(process(program, *words.split(), stdin=subprocess.DEVNULL).returncode, 1, words)
 
 
 class Building(Folder):
-
     def times(self) -> list[str]:
         return (self.root / "times").read_text().split("\n")
 
@@ -337,11 +332,8 @@ class Building(Folder):
             self.command(*words)
         self.assertEqual(set(self.count()), {"try"})
 
-
-class Version(unittest.TestCase):
-    """The version is named in CITATION.cff, and told by the script and the README."""
-
-    def test_it_is_the_same_everywhere(self) -> None:
+    def test_the_version_is_the_same_everywhere(self) -> None:
+        """It is named in CITATION.cff, and told by the script, the README and the changes."""
         named = re.search(r"(?m)^version: (\S+)$", (ROOT / "CITATION.cff").read_text()).group(1)  # type: ignore[union-attr]
         said = subprocess.run([ROOT / "tclocks-build", "--version"], stdout=subprocess.PIPE, check=True).stdout.decode()
         self.assertRegex(said, rf"^tclocks {re.escape(named)}( \(.+\))?\n$")
@@ -354,6 +346,7 @@ class Gate(unittest.TestCase):
         folder = tempfile.TemporaryDirectory()
         self.addCleanup(folder.cleanup)
         self.root = pathlib.Path(folder.name)
+        self.environment = {**os.environ, "PATH": str(self.root / "bin")}
         for name in ".ci", "bin":
             (self.root / name).mkdir()
         shutil.copy(ROOT / ".ci" / "run", self.root / ".ci")
@@ -369,11 +362,9 @@ class Gate(unittest.TestCase):
         """The status and the lines of the gate."""
         self.script("bin/rt", f'[ "$1" = ci ] && [ $# = 1 ] || exit 9\n{rt}')
         self.script("workbench", f'[ "$*" = "check tools" ] || exit 9\necho tested\n{workbench}')
-        done = subprocess.run(["bash", self.root / ".ci" / "run"], stdin=subprocess.DEVNULL,
-                              capture_output=True, check=False,
-                              env={**os.environ, "PATH": str(self.root / "bin")}, text=True)
-        self.assertEqual(done.stderr, "")
-        return done.returncode, done.stdout.splitlines()
+        done = process("bash", self.root / ".ci" / "run", stdin=subprocess.DEVNULL, env=self.environment)
+        self.assertEqual(done.stderr, b"")
+        return done.returncode, done.stdout.decode().splitlines()
 
     def test_both_pass(self) -> None:
         status, lines = self.gate("echo one; echo two >&2; echo '512 passed, 0 failed (12 from before)'; echo 'rt: ok'",
@@ -405,6 +396,5 @@ class Gate(unittest.TestCase):
 
     def test_it_is_run_from_elsewhere_without_standard_input(self) -> None:
         self.gate("echo '10 passed, 0 failed'")
-        done = subprocess.run(["sh", "-c", 'cd / && bash "$0" <&-', self.root / ".ci" / "run"], stdout=subprocess.PIPE, check=False,
-                              env={**os.environ, "PATH": str(self.root / "bin")}, text=True)
-        self.assertEqual((done.returncode, done.stdout.splitlines()[-1]), (0, "11 passed, 0 failed"))
+        done = process("sh", "-c", 'cd / && bash "$0" <&-', self.root / ".ci" / "run", env=self.environment)
+        self.assertEqual((done.returncode, done.stdout.splitlines()[-1]), (0, b"11 passed, 0 failed"))

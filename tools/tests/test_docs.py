@@ -14,7 +14,7 @@ from tools.workbench import command
 from tools.workbench.checking import definitions
 from tools.workbench.guest import guestfile
 from tools.workbench.running import delegation
-from .common import COURSE, GUESTS, MADE_UP, ROOT, TEMPORARY, Case, elf, run, saved, script
+from .common import COURSE, GUESTS, MADE_UP, ROOT, TEMPORARY, Case, elf, process, run, saved, script
 
 
 DOCS = ROOT / "docs"
@@ -30,12 +30,10 @@ KEPT = {"counter": "counter", "philosophers": "philosophers", "first": "first", 
 
 
 class Kept(Case):
-    def test_kept_reports_are_legal(self) -> None:
+    def test_kept_reports_are_legal_and_the_pictures_are_made_of_them(self) -> None:
         for name, guest in KEPT.items():
             said = "legal so far, 200 blocks" if name == "counter" else "a legal run, to the end of every thread"
             self.says(said, run("judge", elf(guest), PICTURES / f"{name}.txt"))
-
-    def test_pictures_are_made_of_them(self) -> None:
         subprocess.run([PICTURES / "make", TEMPORARY], check=True, stderr=subprocess.DEVNULL)
         for name in (*KEPT, "overview", "stays", "sweep"):
             self.assertEqual((PICTURES / f"{name}.svg").read_bytes(), (TEMPORARY / f"{name}.svg").read_bytes(), name)
@@ -133,10 +131,9 @@ class Commands(Case):
     subcommand alone; of many samples a few are made."""
 
     def test_each_subcommand_that_is_named_is_there(self) -> None:
-        names = {name for name in command.EVERY}
         for page in PAGES:
             for words in re.findall(r"\./workbench ((?:bench )?[a-z]+)", page.read_text()):
-                self.assertIn(words, names | {"bench"}, page)
+                self.assertIn(words, {*command.EVERY, "bench"}, page)
 
     def table_of_data_that_stays(self, page: str, said: str) -> None:
         """Its numbers are those of the command that the page gives."""
@@ -161,9 +158,8 @@ class Commands(Case):
                     continue
                 seen.add(text)
                 with self.subTest(page=page.name, command=text):
-                    done = subprocess.run(["sh", "-c", fewer(text)], cwd=root, stdin=subprocess.DEVNULL,
-                                          capture_output=True, check=False, timeout=300,
-                                          env={**os.environ, "HOME": str(TEMPORARY)})
+                    done = process("sh", "-c", fewer(text), cwd=root, stdin=subprocess.DEVNULL, timeout=300,
+                                   env={**os.environ, "HOME": str(TEMPORARY)})
                     self.assertEqual(done.returncode, 0, done.stderr.decode()[-300:])
                     self.assertNotIn(b"Traceback", done.stderr)
                 if "hot.elf" in text and "--strips" in text:
@@ -180,10 +176,9 @@ class Run(Case):
     """By the model, as a seed asks for: the program may be built here."""
 
     def test_it_is_what_simulate_prints(self) -> None:
-        for words, seed in ((("1", "42", "0"), "0"), (("4", "20000", "8"), "3")):
-            done = run("run", elf("first"), *words, "--seed", seed)
-            self.assertEqual(done.stdout.decode(),
-                             self.well("simulate", elf("first"), *words, "--seed", seed))
+        for words in ("1", "42", "0", "--seed", "0"), ("4", "20000", "8", "--seed", "3"):
+            done = run("run", elf("first"), *words)
+            self.assertEqual(done.stdout.decode(), self.well("simulate", elf("first"), *words))
             self.one_line(done, 0, "by the model")
 
     def test_the_program_where_it_is_built(self) -> None:
@@ -209,8 +204,7 @@ class Run(Case):
 def words_of(path: Path, text: bytes) -> list[list[int]]:
     """The words of each lock after a report."""
     locks = re.findall(r"^data [0-9a-f]{8} ([0-9a-f]+)$", text.decode(), re.M)
-    self_ = guestfile.load(str(path)).guest
-    assert len(locks) == len(self_.guards)
+    assert len(locks) == len(guestfile.load(str(path)).guest.guards)
     return [[int.from_bytes(bytes.fromhex(lock)[at:at + 4], "little") for at in range(0, len(lock) // 2, 4)]
             for lock in locks]
 
@@ -243,8 +237,7 @@ class Guests(Case):
             self.assertIsNone(re.search(r" held (0,)?1 kind granted", text))
 
     def test_built_files_are_those_of_the_sources(self) -> None:
-        compiler = shutil.which("riscv64-unknown-elf-gcc")
-        version = compiler and subprocess.run([compiler, "--version"], capture_output=True, check=False).stdout
+        version = COMPILER and process(COMPILER, "--version").stdout
         if not version or b" 12.2.0" not in version:
             self.skipTest("there is no gcc 12.2.0 for RISC-V")
         for place, built in enumerate(BUILT):
@@ -254,8 +247,6 @@ class Guests(Case):
             subprocess.run(["make", "-s", "-f", GUESTS / "kit" / "guest.mk", "MARCH=rv32i", built.name], cwd=folder, check=True)
             self.assertEqual((folder / built.name).read_bytes(), built.read_bytes(), built)
 
-
-class History(Case):
     def test_history_on_nodes(self) -> None:
         """It is legal, and its sections stand as a line picks them with the bound 2, and with no other."""
         text = re.search(r"(?s)```\n(tclocks 2\nguest threads 8 .*?)```", (ROOT / "docs" / "TEACHING.md").read_text())[1]  # type: ignore[index]

@@ -45,7 +45,7 @@ def after(data: dict[str, Any], count: int) -> tuple[list[list[int]], list[list[
     return registers, words
 
 
-class Data(Case):
+class Page(Case):
     def test_the_end_is_what_the_report_says(self) -> None:
         for name in ("philosophers", "sensors", "faults", "broken"):
             blocks, text = history(name, 3, 2, 1, fuel=700)
@@ -91,11 +91,8 @@ class Data(Case):
             data = data_of(made(text, None))
             self.assertEqual((data["registers"], data["words"], data["changes"], data["threads"]), (None, None, [], ["", ""]))
 
-
-class File(Case):
     def test_one_file_from_nowhere_else(self) -> None:
-        _, text = history("counter", 4, 8, 1)
-        whole = made(text, elf("counter"))
+        whole = made(history("counter", 4, 8, 1)[1], elf("counter"))
         self.assertIn("default-src 'none'", whole)
         self.assertNotRegex(whole, r"https?:|\bsrc=|\bhref=|@import|url\(|\bfetch\(|XMLHttp|\bimport ")
 
@@ -255,7 +252,7 @@ def picture(text: str, name: str, first: int = 0, last: int | None = None,
     return draw(line, first, len(line.marks) - 1 if last is None else last, called, "title").svg(line.text.guards)  # type: ignore[no-any-return]
 
 
-class Names(Case):
+class Pictures(Case):
     def test_names_of_symbols(self) -> None:
         for name, wanted in (("philosophers", ("thread 3 philosopher(3)", "lock 2 forks[2]", "lock 5 table")),
                              ("buffer", ("thread 0 consumer(30)", "thread 1 producer(100)", "lock 0 buffer")),
@@ -272,24 +269,19 @@ class Names(Case):
             text = history("counter", 2, 2, 1, fuel=100)[1]
             self.assertIn(part, run("draw", "-", "--guest", elf("counter"), form, given=text).stdout.decode())
 
-    def test_a_guest_without_symbols(self) -> None:
-        self.assertEqual(run("draw", "-", "--guest", GUEST, given=WAITS).stdout,
-                         run("draw", "-", given=WAITS).stdout)
-
-    def test_another_guest(self) -> None:
+    def test_a_guest_without_symbols_and_another_guest(self) -> None:
+        self.assertEqual(*(run("draw -", *words, given=WAITS).stdout for words in ((), ("--guest", GUEST))))
         done = run("draw", "-", "--guest", elf("philosophers"), given=WAITS)
-        self.one_line(done, 3,
-                      "the report is of another guest: it has 2 threads and 1 locks, and the guest 5 and 6")
+        self.one_line(done, 3, "the report is of another guest: it has 2 threads and 1 locks, and the guest 5 and 6")
 
-
-class Pictures(Case):
     def test_each_is_well_formed(self) -> None:
         for name in NAMES:
             blocks, text = history(name, 4, 1, 3, fuel=400)
             for said in (picture(text, name), picture(text, name, draw=drawn),
                          picture(text, name, min(5, len(blocks) - 1), min(30, len(blocks) - 1))):
                 root = xml.etree.ElementTree.fromstring(said)
-                self.assertEqual(root.tag, "{http://www.w3.org/2000/svg}svg")
+                self.assertEqual((root.tag, "<script" in said), ("{http://www.w3.org/2000/svg}svg", False))
+            self.assertIn("away from the thread", picture(text, name))
 
     def test_overview_counts(self) -> None:
         blocks, text = history("philosophers", 4, 8, 1)
@@ -315,22 +307,11 @@ class Pictures(Case):
         panel = said[said.index("Moves of a lock"):said.index("Threads that wait")]
         self.assertEqual(sum(map(int, re.findall(r"lock \d (\d+)(?=[,<])", panel))), moves)
 
-    def test_long_runs_become_an_overview(self) -> None:
-        _, text = history("philosophers", 4, 8, 1)
-        self.says("too many to draw each", run("draw", "-", "--most", "50", given=text))
-
-    def test_window(self) -> None:
-        _, text = history("counter", 2, 4, 1)
-        said = run("draw", "-", "--from", "100", "--to", "119", given=text).stdout.decode()
-        stamps = {int(stamp) for stamp in re.findall(r"<title>block (\d+):", said)}
-        self.assertEqual(stamps, set(range(100, 120)))
-
-    def test_wrong_windows_and_words(self) -> None:
-        whole = FINISHED
-        for words, status in ((("--from", "4", "--to", "3"), 1), (("--from", "6"), 3), (("--from", "-1"), 1),
-                              (("--to", "x"), 1), (("--text", "--page"), 1), (("--guest", "/no/such/file"), 2),
-                              (("--guest", saved("no.elf", b"no guest")), 3)):
-            self.one_line(run("draw", "-", *words, given=whole), status)
+    def test_long_runs_become_an_overview_and_windows_are_drawn(self) -> None:
+        text = history("philosophers", 4, 8, 1)[1]
+        self.says("too many to draw each", run("draw - --most 50", given=text))
+        said = run("draw - --from 100 --to 119", given=text).stdout.decode()
+        self.assertEqual({*map(int, re.findall(r"<title>block (\d+):", said))}, set(range(100, 120)))
 
 
 KEPT = ROOT / "docs" / "pictures"

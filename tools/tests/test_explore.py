@@ -12,6 +12,7 @@ import signal
 import subprocess
 import time
 from typing import Any
+from unittest import mock
 
 from tools.workbench import tool
 from tools.workbench.exploring import explore, rules, search, steps
@@ -112,13 +113,6 @@ def guest(seed: int) -> tuple[bytes, int]:
     return made.elf(made.note(entries, guards), words, content, 256), chance.choice((25, 50, 90, 200))
 
 
-def stepped(machine: model.Machine, number: int) -> model.Machine:
-    """A copy of a machine in which a thread ran a block."""
-    new = copy.deepcopy(machine, {id(machine.guest): machine.guest})
-    new.run_block(number)
-    return new
-
-
 def key(machine: model.Machine) -> Any:
     """All that what comes next, and what is told of the end, depends on."""
     return (tuple((thread.pc, tuple(thread.x), thread.fuel, tuple(sorted(thread.held)), thread.end,
@@ -142,19 +136,13 @@ def plain(file: bytes, fuel: int) -> tuple[dict[rules.End, int], int]:
         for machine in now.values():
             if all(thread.end for thread in machine.threads):
                 ends.setdefault(end_of(machine), blocks)
-            for number, thread in enumerate(machine.threads):
-                lock = machine.next_lock(thread)
-                if thread.end is None and (lock is None or machine.locks[lock].owner is None):
-                    new = stepped(machine, number)
-                    after.setdefault(key(new), new)
+            for number in machine.able():
+                new = copy.deepcopy(machine, {id(machine.guest): machine.guest})
+                new.run_block(number)
+                after.setdefault(key(new), new)
         seen.update(now)
         now, blocks = {name: new for name, new in after.items() if name not in seen}, blocks + 1
     return ends, len(seen)
-
-
-def attentive() -> None:
-    """What is started in the background may ignore an interrupt, and would hand that on."""
-    signal.signal(signal.SIGINT, signal.default_int_handler)
 
 
 BEGIN = f"lui 5 {made.DATA};"
@@ -235,13 +223,10 @@ class EveryInterleaving(Case):
         self.assertEqual({(end.word(2, 0), end.locks[1][1]) for end in ends}, {(3, 1), (3, 2), (4, 1), (4, 2)})
 
     def test_several_processes(self) -> None:
-        alone, search.ALONE = search.ALONE, 2
-        try:
+        with mock.patch.object(search, "ALONE", 2):
             for seed in (2, 5, 9):
                 found, ends = self.same(*guest(seed), processes=3)
                 self.assertEqual(found.shares.count, 3)
-        finally:
-            search.ALONE = alone
 
     def test_ends_of_runs_are_among_them(self) -> None:
         for name in ("exit", "first", "matrix", "faults", "stale"):
@@ -266,14 +251,16 @@ class EveryInterleaving(Case):
                 self.says("a legal run, to the end of every thread", judged)
 
 
+STALE = guestfile.load(elf("stale")).guest
+
+
 class Use(Case):
     def test_all(self) -> None:
         done = run("explore", elf("stale"), "--all")
         self.one_line(done, 0)
         self.assertRegex(done.stderr.decode(), r"^workbench explore: some \d+ states are expected, .*; at most 1,000,000 are searched")
-        self.says("every interleaving: 2 outcomes, ", done)
-        self.says("lock 0 word 0 (00100000): 33 (0x21)", done)
-        self.says("lock 0 word 0 (00100000): 73 (0x49)", done)
+        for text in "every interleaving: 2 outcomes, ", "word 0 (00100000): 33 (0x21)", "word 0 (00100000): 73 (0x49)":
+            self.says(text, done)
         self.assertIn(f"```\n{done.stdout.decode()}```\n", (ROOT / "docs/EXPLORE.md").read_text())
 
     def test_samples_do_not_see_it(self) -> None:
@@ -286,12 +273,11 @@ class Use(Case):
         self.one_line(done, 0, "\n\nsamples, 3 runs by the model: 1 outcome seen\n")
 
     def test_a_run_that_the_search_has_not(self) -> None:
-        guest = guestfile.load(elf("stale")).guest
-        found = search.Search(guest, 20000)
+        found = search.Search(STALE, 20000)
         found.ends = lambda: []  # type: ignore[assignment]
         asked, _ = explore.parsed([elf("stale"), "--all", "--runs", "1", "--model"])
         with contextlib.redirect_stdout(io.StringIO()), self.assertRaises(tool.Trouble) as trouble:
-            explore.compare(guest, found, asked)
+            explore.compare(STALE, found, asked)
         self.assertEqual(trouble.exception.status, 3)
 
     def test_reach(self) -> None:
@@ -333,18 +319,14 @@ class Use(Case):
         self.assertEqual((count, done.returncode, done.stdout), (3, 3, whole.stdout))
 
     def test_several_processes_go_on_where_they_stopped(self) -> None:
-        guest, alone = guestfile.load(elf("stale")).guest, search.ALONE
-        whole = search.Search(guest, 20000)
-        search.ALONE = 10
-        try:
-            found = search.Search(guest, 20000, most=60, processes=3)
+        whole = search.Search(STALE, 20000)
+        with mock.patch.object(search, "ALONE", 10):
+            found = search.Search(STALE, 20000, most=60, processes=3)
             while not found.whole:
                 kept, states = found.kept(), found.states
                 found.shares.close()
-                found = search.Search(guest, 20000, most=60, before=kept)
+                found = search.Search(STALE, 20000, most=60, before=kept)
                 self.assertGreater(found.states, states)
-        finally:
-            search.ALONE = alone
         self.assertEqual((found.shares.count, found.states), (3, whole.states))
         self.assertEqual({end: way().blocks for end, way in found.ends()}, {end: way().blocks for end, way in whole.ends()})
 
@@ -358,8 +340,10 @@ class Use(Case):
             self.one_line(run("explore", elf(guest), *words), 3)
 
     def test_an_interrupt_tells_what_was_found(self) -> None:
+        # What is started in the background may ignore an interrupt, and would hand that on.
         started = subprocess.Popen([ROOT / "workbench", "explore", elf("philosophers"), "--all", "--most", "1"],
-                                   stdout=subprocess.PIPE, stderr=subprocess.PIPE, preexec_fn=attentive)
+                                   stdout=subprocess.PIPE, stderr=subprocess.PIPE,
+                                   preexec_fn=lambda: signal.signal(signal.SIGINT, signal.default_int_handler))
         assert started.stderr
         started.stderr.readline()  # how large it is expected to be
         time.sleep(2)
@@ -369,10 +353,9 @@ class Use(Case):
         self.assertIn(b": not all seen", out)
 
     def test_estimate(self) -> None:
-        guest = guestfile.load(elf("stale")).guest
-        states = search.Search(guest, 20000).states
+        states = search.Search(STALE, 20000).states
         for most in (40, 150):
-            found = search.Search(guest, 20000, most=most, walks=64)
+            found = search.Search(STALE, 20000, most=most, walks=64)
             self.assertFalse(found.whole)
             self.assertLess((states - most) / 8, found.left())
             self.assertLess(found.left(), (states - most) * 8)
@@ -418,7 +401,6 @@ class Use(Case):
             self.one_line(run("explore", elf("first"), "--reach", rule), 1)
         done = run("explore", elf("first"), "--all", "--keep", "/dev/null/no")
         self.assertEqual((done.returncode, done.stderr.count(b"\n")), (4, 2), done.stderr)
-        self.one_line(run("explore", saved("none.elf", b"none"), "--all"), 3)
 
 
 class Rules(Case):

@@ -4,7 +4,6 @@ says of the same ones."""
 from __future__ import annotations
 
 import collections
-import json
 import random
 import re
 import subprocess
@@ -16,7 +15,7 @@ from tools.workbench.guest import guestfile, model
 from tools.workbench.judging import rejecting
 from tools.workbench.reports import report, spoil
 from tools.workbench.running import delegation, program
-from .common import BY_HAND, BY_HAND_V1, EXIT, GUEST, GUESTS, NAMES, ONE, PCS, PROFILE, ROOT, TEMPORARY, Case, built, call, elf, history, run, saved
+from .common import BY_HAND, BY_HAND_V1, EXIT, FACTS, FINISHED, GUEST, GUESTS, NAMES, ONE, PCS, PROFILE, ROOT, TEMPORARY, Case, built, call, elf, history, run, saved
 
 
 class ByHand(Case):
@@ -24,16 +23,14 @@ class ByHand(Case):
 
     def test_legal_so_far_and_finished(self) -> None:
         self.says("legal so far, 6 blocks", run("judge", GUEST, given=BY_HAND))
-        done = run("finish", GUEST, given=BY_HAND)
-        self.says("lock 0 sections 2 broken 0 bytes 4\ndata 00020000 02000000\nend", done)
-        self.says("a legal run, to the end of every thread", run("judge", GUEST, given=done.stdout))
+        self.assertIn(b"lock 0 sections 2 broken 0 bytes 4\ndata 00020000 02000000\nend", FINISHED)
+        self.says("a legal run, to the end of every thread", run("judge", GUEST, given=FINISHED))
 
     def test_lines_without_stamps_and_with_threads_alone(self) -> None:
-        lines = re.sub("block [0-9]+ ", "", BY_HAND)
-        self.assertEqual(run("finish", GUEST, given=lines).stdout, run("finish", GUEST, given=BY_HAND).stdout)
-        short = ("run workers 2 fuel 100 batch 4\nthread 0\nthread 0\nthread 1 worker 1\n"
-                 "thread 1 kind adopted\nthread 0\nthread 1 worker 1")
-        self.assertEqual(run("finish", GUEST, given=short).stdout, run("finish", GUEST, given=BY_HAND).stdout)
+        for lines in re.sub("block [0-9]+ ", "", BY_HAND), (
+                "run workers 2 fuel 100 batch 4\nthread 0\nthread 0\nthread 1 worker 1\n"
+                "thread 1 kind adopted\nthread 0\nthread 1 worker 1"):
+            self.assertEqual(run("finish", GUEST, given=lines).stdout, FINISHED)
 
     def test_both_forms(self) -> None:
         self.says("legal so far, 6 blocks", run("judge", GUEST, given=BY_HAND_V1))
@@ -54,7 +51,7 @@ class ByHand(Case):
         for old, (new, place) in changes.items():
             for tool in ("judge", "finish"):
                 done = run(tool, GUEST, given=BY_HAND.replace(old, new))
-                self.one_line(done, 3)
+                self.one_line(done, 3, place)
                 self.assertIn(place, done.stderr.decode())
 
     def test_a_block_between_the_release_and_the_adopted_section(self) -> None:
@@ -87,24 +84,19 @@ class ByHand(Case):
         self.says("did not wait", done)
 
     def test_who_is_set_aside_does_not_wait(self) -> None:
-        """Worker 0 goes on with thread 0 behind thread 1's section: only then can it want the lock."""
+        """Worker 0 goes on with thread 0 behind thread 1's section: only then can it want the lock. Of a granted
+        section the judge alone says so, of an adopted one the theorem does."""
         lines = "run workers 2 fuel 1000 batch 1\nthread 0\nthread 1 worker 1\nthread 0\nthread 1 kind adopted\n"
+        beyond = " (this the judge asks, and the program's theorem does not say it)\n"
         done = run("finish", elf("first"), given=lines + "thread 0\nthread 1 worker 1\nthread 0 kind granted\n")
         self.assertEqual(done.returncode, 3)
-        self.says("ran block 4 before thread 0 could wait", done)
+        self.says(f"ran block 4 before thread 0 could wait for it{beyond}", done)
         late = lines.replace("thread 0\nthread 1 kind adopted", "thread 0\nthread 0\nthread 1 kind taken")
         self.assertEqual(run("finish", elf("first"), given=late).returncode, 0)
         done = run("finish", elf("first"), given=late.replace("kind taken", "kind adopted"))
         self.says("it would have adopted at once", done)
-
-    def test_granted_without_waiting_is_beyond_the_theorem(self) -> None:
-        """Of an adopted section the theorem says it, of a granted one only the judge."""
-        lines = "run workers 2 fuel 1000 batch 1\nthread 0\nthread 1 worker 1\nthread 0\nthread 1 kind adopted\n"
-        beyond = "and the program's theorem does not say it"
-        done = run("finish", elf("first"), given=lines + "thread 0\nthread 1 worker 1\nthread 0 kind granted\n")
-        self.says(beyond, done)
         done = run("judge", GUEST, given=BY_HAND.replace("kind taken", "kind granted"))
-        self.assertNotIn(beyond, done.stderr.decode())
+        self.assertNotIn(beyond.encode(), done.stderr)
 
 
 LOCKED = {lock: call(1, lock) + call(2, lock) + EXIT for lock in (0, 1)}
@@ -115,16 +107,14 @@ DOZE = (ONE[0],) + call(1, 0) + call(3, 3) + call(2, 0) + EXIT
 class OnPaper(Case):
     """Histories with nested locks, sleeps and unlocks out of order, whose blocks are known."""
 
-    def finished(self, code: tuple[int, ...], entries: tuple[int, ...], guards: int, lines: str,
-                 options: tuple[str, str, str, str, str, str]) -> CompletedProcess[bytes]:
-        done = run("finish", saved("paper.elf", built(code, entries, guards)), *options, given=lines)
-        self.assertEqual((done.returncode, done.stderr), (0, b""))
-        return done
+    def finished(self, code: tuple[int, ...], entries: tuple[int, ...], guards: int, lines: str) -> str:
+        """The report of a history by as many workers as threads."""
+        return self.well("finish", saved("paper.elf", built(code, entries, guards)), "--workers", f"{len(entries)}",
+                         "--batch", "4", "--fuel", "100", given=lines)
 
     def test_nested_delegation(self) -> None:
         """Thread 2 is adopted with lock 0 by worker 1, shipped with it to lock 1, and adopted by worker 0."""
-        code = LOCKED[1] + LOCKED[0] + BOTH
-        done = self.finished(code, (0, 8, 16), 2, """
+        text = self.finished(LOCKED[1] + LOCKED[0] + BOTH, (0, 8, 16), 2, """
             thread 0 turns 2 worker 0 end wants 1
             thread 1 turns 2 worker 1 end wants 0
             thread 0 kind taken worker 0 end unlocked 1
@@ -136,18 +126,18 @@ class OnPaper(Case):
             thread 0 worker 0 end exit
             thread 1 worker 1 end exit
             thread 2 worker 2 end exit
-            """, ("--workers", "3", "--batch", "4", "--fuel", "100"))
-        picture = run("draw", "-", "--text", given=done.stdout).stdout.decode()
+            """)
+        picture = self.well("draw", "-", "--text", given=text)
         self.assertIn("thread 2      sAAO  .", picture)
         self.assertIn("\n          0         10\n", picture)
-        said = run("explain", TEMPORARY / "paper.elf", "-", given=done.stdout)
+        said = run("explain", TEMPORARY / "paper.elf", "-", given=text)
         self.says("\n  adopted: thread 2 waited for lock 0 from block 4 on (worker 2); worker 1 released it in block 3 "
                   "and runs the section, adopted section 1 in a row; away from the thread's own worker\n", said)
         self.says("\n  adopted: thread 2 waited for lock 1 from block 5 on (worker 1), shipped with lock 0; worker 0 "
                   "released it in block 2 and runs", said)
 
     def test_sleep_inside_a_section(self) -> None:
-        done = self.finished(DOZE + ONE, (0, len(DOZE)), 1, """
+        text = self.finished(DOZE + ONE, (0, len(DOZE)), 1, """
             thread 0 turns 3 worker 0 end wants 0
             thread 0 turns 4 held 0 kind taken worker 0 end slept
             thread 1 turns 3 worker 1 end wants 0
@@ -155,9 +145,9 @@ class OnPaper(Case):
             thread 1 kind adopted worker 0
             thread 0 worker 0
             thread 1 worker 1
-            """, ("--workers", "2", "--batch", "4", "--fuel", "100"))
-        self.says("data 00020000 01000000", done)
-        self.assertIn("asleep with lock 0 held", run("draw", "-", given=done.stdout).stdout.decode())
+            """)
+        self.assertIn("data 00020000 01000000", text)
+        self.assertIn("asleep with lock 0 held", self.well("draw", "-", given=text))
 
     def test_unlock_out_of_order(self) -> None:
         code = call(1, 0) + call(1, 1) + call(2, 0) + call(2, 1) + EXIT
@@ -235,10 +225,9 @@ class Delegation(Case):
         self.assertEqual({block.worker for block in blocks}, set(range(4)))
 
     def test_facts_hold_in_delegated_runs(self) -> None:
-        facts = json.loads((GUESTS / "facts.json").read_text())
         for name in NAMES:
             run_, _ = delegation.delegated(guestfile.load(elf(name)).guest, 20000, 4, 2, 7)
-            self.assertEqual(list(model.differences(facts[name], run_.machine)), [])
+            self.assertEqual(list(model.differences(FACTS[name], run_.machine)), [])
 
 
 DOCS = ROOT / "docs"
@@ -273,8 +262,7 @@ class Answers(Case):
 
     def test_an_owner(self) -> None:
         """Thread 0 sleeps with lock 0, and thread 1 runs on from its LOCK."""
-        doze = (ONE[0],) + call(1, 0) + call(3, 3) + call(2, 0) + EXIT
-        file = built(doze + ONE, (0, len(doze)), 1)
+        file = built(DOZE + ONE, (0, len(DOZE)), 1)
         self.assertEqual(len(file), 304)
         lines = """block 0 thread 0 turns 3 held - kind start worker 0 pc 00100000 end wants 0
 block 1 thread 0 turns 4 held 0 kind taken worker 0 pc 0010000c end slept
@@ -285,24 +273,19 @@ block 3 thread 1 turns 7 held 0 kind taken worker 1 pc 0010003c end unlocked 0
 
     def test_a_text_error_comes_first(self) -> None:
         """Wherever it stands; and of a wrong block the first reason."""
-        file, numbers = built(ONE, (0, 0), 1), (2, 100, 4)
-        lines = rejecting.history_of(BY_HAND).decode()
-        wrong = lines.replace("block 1 thread 0", "block 1 thread 7")
-        self.assertEqual(answer("replay", file, numbers, wrong), (6, "rejected 2 2 Thread\n"))
-        wrong = wrong.replace("block 5", "block  5")
-        self.assertEqual(answer("replay", file, numbers, wrong), (6, "rejected 6 1 Text\n"))
-        wrong = lines.replace("turns 7 held 0 kind adopted worker 0", "turns 8 held 0 kind on worker 9")
-        self.assertEqual(answer("replay", file, numbers, wrong), (6, "rejected 4 4 Block\n"))
-        wrong = lines.replace("kind adopted worker 0", "kind on worker 9")
-        self.assertEqual(answer("replay", file, numbers, wrong), (6, "rejected 4 5 Kind\n"))
-        wrong = lines.replace("kind adopted worker 0", "kind taken worker 9")
-        self.assertEqual(answer("replay", file, numbers, wrong), (6, "rejected 4 6 Worker\n"))
+        lines, thread = rejecting.history_of(BY_HAND).decode(), ("block 1 thread 0", "block 1 thread 7")
+        section, adopted = "turns 7 held 0 kind adopted worker 0", "kind adopted worker 0"
+        for wrong, said in ((lines.replace(*thread), "2 2 Thread"),
+                            (lines.replace(*thread).replace("block 5", "block  5"), "6 1 Text"),
+                            (lines.replace(section, "turns 8 held 0 kind on worker 9"), "4 4 Block"),
+                            (lines.replace(adopted, "kind on worker 9"), "4 5 Kind"),
+                            (lines.replace(adopted, "kind taken worker 9"), "4 6 Worker")):
+            self.assertEqual(answer("replay", built(ONE, (0, 0), 1), (2, 100, 4), wrong), (6, f"rejected {said}\n"))
 
-    def test_the_batch_rule(self) -> None:
-        """As it is written: a thread may be handed what it released itself."""
-        file, numbers = built(ONE, (0, 0), 1), (2, 100, 4)
-        lines = rejecting.history_of(BY_HAND).decode()
-        self.assertEqual(answer("replay", file, numbers, lines)[0], 0)
+    def test_a_profile_and_the_batch_rule(self) -> None:
+        """The rule as it is written: a thread may be handed what it released itself."""
+        file, lines = built(ONE, (0, 0), 1), rejecting.history_of(BY_HAND).decode()
+        self.assertEqual(answer("profile", file, (2, 100, 4), lines), (0, PROFILE))
         for old, new, limit, wrong in (("adopted", "granted", 4, True), ("adopted", "taken", 4, False), ("adopted", "granted", 0, False),
                                        ("adopted", "adopted", 0, True), ("adopted worker 0", "adopted worker 1", 4, True),
                                        ("taken", "adopted", 4, True), ("taken", "granted", 0, True), ("adopted", "on", 4, True)):
@@ -310,10 +293,6 @@ block 3 thread 1 turns 7 held 0 kind taken worker 1 pc 0010003c end unlocked 0
             line = 2 if old == "taken" else 4
             self.assertEqual((status, text) == (6, f"rejected {line} 5 Kind\n"), wrong, (new, limit, text[:40]))
             self.assertIn(status, (0, 6))
-
-    def test_a_profile(self) -> None:
-        self.assertEqual(answer("profile", built(ONE, (0, 0), 1), (2, 100, 4), rejecting.history_of(BY_HAND).decode()),
-                         (0, PROFILE))
 
     def test_what_is_refused(self) -> None:
         for size, said in ((93, "refused 17 ShortInput"), (51, "refused 1 TooShort"), (91, "refused 9 BadLoad")):
@@ -339,8 +318,6 @@ block 3 thread 1 turns 7 held 0 kind taken worker 1 pc 0010003c end unlocked 0
                          (" kind", "  kind"), ("exit", "exit "), ("block", " block"), ("turns 2", "turns " + "9" * 5000)):
             self.assertIsNone(rejecting.block_of(line.replace(old, new), 0), new)
 
-
-class Changed(Case):
     def test_histories_of_the_model_are_taken(self) -> None:
         for seed, name in enumerate(NAMES):
             text = history(name, 4, 2, seed, fuel=700)[1]

@@ -13,6 +13,7 @@ import json
 import os
 import pty
 import random
+import re
 import shlex
 import subprocess
 import sys
@@ -25,14 +26,13 @@ from tools.workbench.guest import damage, elf32, guestfile, made, model, rv32im
 from tools.workbench.judging import rejecting
 from tools.workbench.reports import report, spoil
 from tools.workbench.running import delegation, program
-from .common import BY_HAND, GUESTS, NAMES, ONE, ROOT, TEMPORARY, Case, built, elf, history, run, saved
+from .common import BY_HAND, FACTS, GUESTS, NAMES, ONE, ROOT, TEMPORARY, Case, built, elf, history, process, run, saved
 
 
 FILES = [*sorted((ROOT / "tools").rglob("*.py")), ROOT / "workbench.py", ROOT / "tclocks-build"]
 
 
-class Sources(Case):
-
+class Package(Case):
     def test_each_function_has_types_and_none_changes_the_path(self) -> None:
         for path in FILES:
             text = path.read_text()
@@ -52,32 +52,27 @@ class Sources(Case):
             self.assertTrue(path.suffix in (".c", ".S", ".elf") or path.name in command.EVERY
                             or path.name in ("facts.json", "Makefile", "README.md", "kit", "course", "out"), path)
 
-
-class Launcher(Case):
     def test_help_lists_each_subcommand_with_a_line(self) -> None:
         for words in ("--help",), ("-h",), ("help",):
             done = run(words[0])
             self.assertEqual((done.returncode, done.stderr), (0, b""))
             for one in command.EVERY.values():
                 self.assertRegex(done.stdout.decode(), rf"(?m)^  {one.name} +\S.{{10,}}$")
-        self.assertEqual(subprocess.run([sys.executable, "-m", "workbench", "--help"], cwd=ROOT, stdout=subprocess.PIPE,
-                                        check=True).stdout, done.stdout)
+        self.assertEqual(process(sys.executable, "-m", "workbench", "--help", cwd=ROOT).stdout, done.stdout)
 
     def test_wrong_words(self) -> None:
         for words, part in (((), "a subcommand is missing"), (("nobody",), "no subcommand 'nobody'"), (("--fast",), "'--fast'"),
                             (("bench",), "bench is one of bench run, "), (("bench", "x"), "bench is one of")):
-            done = subprocess.run([ROOT / "workbench", *words], capture_output=True, check=False)
-            self.one_line(done, 1, part)
+            self.one_line(process(ROOT / "workbench", *words), 1, part)
 
     def test_old_names(self) -> None:
-        wanted = run("simulate", elf("first"), "1", "1000", "0").stdout
-        self.assertEqual(subprocess.run([GUESTS / "simulate", elf("first"), "1", "1000", "0"], stdout=subprocess.PIPE, check=True).stdout,
-                         wanted)
+        words = elf("first"), "1", "1000", "0"
+        self.assertEqual(process(GUESTS / "simulate", *words).stdout, run("simulate", *words).stdout)
         for name in command.EVERY:
             path = ROOT / name.replace(" ", "/") if name.startswith("bench ") else GUESTS / name
             if path.exists():
-                done = subprocess.run([path, "--help"], stdout=subprocess.PIPE, check=True)
-                self.assertTrue(done.stdout.decode().startswith(f"usage: workbench {name} "), path)
+                said = process(path, "--help").stdout.decode()
+                self.assertTrue(said.startswith(f"usage: workbench {name} "), path)
 
 
 class Shown(Case):
@@ -100,7 +95,7 @@ class Shown(Case):
 
     def test_on_a_terminal_alone(self) -> None:
         words = [sys.executable, str(ROOT / "workbench.py"), "sweep", elf("first"), "--model", "--runs", "2"]
-        done = subprocess.run(words, capture_output=True, check=False)
+        done = process(*words)
         self.assertEqual((done.returncode, done.stderr), (0, b""))
         here, there = pty.openpty()
         again = subprocess.run(words, stdout=subprocess.PIPE, stderr=there, check=False)
@@ -122,20 +117,15 @@ class WrongUses(Case):
             status, *words = shlex.split(line, comments=True) or ["-"]
             if words:
                 with self.subTest(line=line):
-                    done = run(words[0], *(word.replace("guests/", f"{GUESTS}/") for word in words[1:]))
+                    done = run(words[0], *(re.sub("^(guests|docs)/", rf"{ROOT}/\1/", word) for word in words[1:]))
                     self.one_line(done, int(status))
                     self.assertTrue(done.stderr.startswith(f"workbench {words[0]}".encode())
                                     and not done.stdout, done)
 
     def test_standard_input_is_a_folder_or_closed(self) -> None:
         for tool in self.TOOLS:
-            with open(TEMPORARY / "closed", "w") as file:
-                closed = subprocess.run(["sh", "-c", '"$0" "$@" <&-', ROOT / "workbench", tool, *self.WORDS[tool], "-"],
-                                        stdout=file, stderr=subprocess.PIPE, check=False)
-            self.one_line(closed, 2)
-            folder = subprocess.run(["sh", "-c", '"$0" "$@" < /', ROOT / "workbench", tool, *self.WORDS[tool], "-"],
-                                    capture_output=True, check=False)
-            self.one_line(folder, 2)
+            for how in "<&-", "< /":
+                self.one_line(process("sh", "-c", f'"$0" "$@" {how}', ROOT / "workbench", tool, *self.WORDS[tool], "-"), 2)
 
     def test_output_that_fails(self) -> None:
         _, text = history("sleepers", 4, 8, 1)
@@ -145,9 +135,7 @@ class WrongUses(Case):
                 "simulate": [elf("sleepers"), "1", "20000", "0"], "explore": [elf("first"), "--runs", "2", "--model"]}
         for tool, words in uses.items():
             self.full(tool, *words)
-            closed = subprocess.run(["sh", "-c", '"$0" "$@" >&-', ROOT / "workbench", tool, *words],
-                                    stderr=subprocess.PIPE, check=False)
-            self.one_line(closed, 4)
+            self.one_line(process("sh", "-c", '"$0" "$@" >&-', ROOT / "workbench", tool, *words), 4)
         for tool in ("draw", "explain", "finish", "simulate"):
             piped = subprocess.Popen([ROOT / "workbench", tool, *uses[tool]], stdout=subprocess.PIPE, stderr=subprocess.PIPE)
             piped.stdout.close()  # type: ignore[union-attr]
@@ -168,15 +156,12 @@ class WrongUses(Case):
     def test_numbers_that_the_program_refuses(self) -> None:
         for words in ("workers 0 fuel 9 batch 0", "workers 9 fuel 9 batch 0", "workers 1 fuel 65537 batch 0",
                       "workers 1 fuel 9 batch 257", "workers 01 fuel 9 batch 0", "workers 1 fuel +9 batch 0"):
-            text = f"tclocks 1\nguest threads 2 guards 1\nrun {words}\n"
-            self.one_line(run("judge", elf("first"), given=text), 3)
+            self.one_line(run("judge", elf("first"), given=f"tclocks 1\nguest threads 2 guards 1\nrun {words}\n"), 3)
 
     def test_noise(self) -> None:
         for tool in self.TOOLS:
             for noise in (b"", b"\0" * 1000, bytes(range(256)) * 50, b"tclocks 1\n" * 9, b"\n" * 9):
-                done = run(tool, *self.WORDS[tool], "-", given=noise)
-                self.assertNotIn(b"Traceback", done.stderr)
-                self.assertLessEqual(done.stderr.count(b"\n"), 5 if tool == "finish" else 1)
+                self.quiet(run(tool, *self.WORDS[tool], "-", given=noise), 5 if tool == "finish" else 1)
 
     def test_cut_in_the_middle(self) -> None:
         _, text = history("philosophers", 3, 2, 4, fuel=300)
@@ -185,12 +170,14 @@ class WrongUses(Case):
             for tool, words in (("summary", [cut]), ("draw", [cut]), ("judge", [elf("philosophers"), cut]),
                                 ("explain", [elf("philosophers"), cut])):
                 done = run(tool, *words)
-                self.assertNotIn(b"Traceback", done.stderr)
-                self.assertLessEqual(done.stderr.count(b"\n"), 1)
+                self.quiet(done, 1)
                 self.assertIn(done.returncode, (0, 3))
 
+    def quiet(self, done: subprocess.CompletedProcess[bytes], most: int) -> None:
+        """It says no more lines than this, and no traceback."""
+        self.assertNotIn(b"Traceback", done.stderr)
+        self.assertLessEqual(done.stderr.count(b"\n"), most)
 
-class Large(Case):
     def test_hundred_megabytes(self) -> None:
         """Counted; and a quarter of them drawn."""
         path, part, blocks = TEMPORARY / "large.txt", TEMPORARY / "part.txt", 1_040_000
@@ -229,13 +216,10 @@ class Checks(Case):
         """As the command, which is held to the program, has it."""
         self.assertIn(f'usage="{limits.USAGE}"', (ROOT / "tclocks").read_text())
 
-
     def test_without_a_program(self) -> None:
-        for name, words in (("check", ("first",)), ("fuzz", ("1",)), ("refuse", ()), ("endure", ("1",))):
-            self.one_line(run(name, *words, by="/no/such/file"), 2, "the program isn't built")
+        for words in "check first", "fuzz 1", "refuse", "endure 1":
+            self.one_line(run(words, by="/no/such/file"), 2, "the program isn't built")
 
-
-class Parts(Case):
     def test_guests_that_are_drawn(self) -> None:
         """Each is a guest, and each damaged copy is one or is refused."""
         draw = script("fuzz").Draw(7)
@@ -271,14 +255,12 @@ class Parts(Case):
             self.assertIn(part, refuse.wrong_in(case, other, 2))
 
     def test_facts_are_computed_without_the_guest(self) -> None:
-        facts, known = script("facts"), json.loads((GUESTS / "facts.json").read_text())
-        for name in NAMES:
-            if name != "exit":
-                for key, value in getattr(facts, name)().items():
-                    self.assertEqual(value, known[name][key], (name, key))
+        for name in set(NAMES) - {"exit"}:
+            for key, value in getattr(script("facts"), name)().items():
+                self.assertEqual(value, FACTS[name][key], (name, key))
 
     def test_a_fact_that_does_not_hold_is_found(self) -> None:
-        check, known = script("check"), json.loads((GUESTS / "facts.json").read_text())["first"]
+        check, known = script("check"), FACTS["first"]
         machine = script("facts").run(model.Guest((GUESTS / "first.elf").read_bytes()), random.Random(1))
         check.check_facts(known, machine, check.AMPLE)
         for key, value in (("x10", [5, 8]), ("sections", [7]), ("ends", ["exit", "spent"]), ("turns", [51, 50])):
@@ -299,12 +281,11 @@ class Parts(Case):
         self.assertEqual(str(shown), "4 runs, 2 by two workers or more, 2 with adopted sections (3 of them)")
 
     def test_a_contended_guest_must_show_delegation(self) -> None:
-        check, known = script("check"), json.loads((GUESTS / "facts.json").read_text())
-        text = history("counter", 1, 8, None)[1]
+        check, text = script("check"), history("counter", 1, 8, None)[1]
         check.check_run = lambda file, known, words: text
         check.give_back = check.give_changed = lambda *_: ()
         with contextlib.redirect_stdout(io.StringIO()) as said:
-            passed = [check.check(name, known[name])[0] for name in ("counter", "first")]
+            passed = [check.check(name, FACTS[name])[0] for name in ("counter", "first")]
         self.assertEqual(passed, [False, True])
         self.assertEqual(said.getvalue(), "counter: FAILED: one worker alone ran in each of 125 runs\n"
                          "first: passed, 25 runs, 0 by two workers or more, 0 with adopted sections (0 of them)\n")
@@ -314,8 +295,6 @@ class Parts(Case):
                 answer: answer) -> tuple[bool, str, collections.Counter[str]]:
         """Checks the guest first by a program that is made up: it answers by the model, and in the place of that what
         is given, of runs by nodes and of histories."""
-        check, known = script("check"), json.loads((GUESTS / "facts.json").read_text())["first"]
-
         def answer(words: tuple[Any, ...], file: bytes) -> tuple[int, str]:
             if words[0] in ("replay", "profile"):
                 return of_history(words[0], rejecting.Given(words[1], words[2:], file).answer(words[0]))  # type: ignore[no-any-return]
@@ -326,7 +305,7 @@ class Parts(Case):
             return of_nodes(text) if words[0] == "nodes" else (0, text)  # type: ignore[no-any-return]
         with mock.patch.object(program, "run", answer), mock.patch.object(program, "keep", lambda name, _: f"out/{name}"), \
                 contextlib.redirect_stdout(io.StringIO()) as said:
-            passed, answers = check.check("first", known)
+            passed, answers = script("check").check("first", FACTS["first"])
         return passed, said.getvalue(), answers
 
     def test_a_run_by_nodes_is_judged_as_a_run(self) -> None:

@@ -11,40 +11,28 @@ import shutil
 import subprocess
 import unittest
 from subprocess import CompletedProcess
-from typing import Any
 
 from tools.workbench import limits
 from tools.workbench.guest import guestfile, model, sources
 from tools.workbench.judging import legal, tracing
 from tools.workbench.reports import report
-from .common import EXIT, FINISHED, GUEST, GUESTS, NAMES, ONE, PROFILE, ROOT, TEMPORARY, Case, built, call, elf, history, run, saved
+from .common import EXIT, FACTS, FINISHED, GUEST, GUESTS, NAMES, ONE, PROFILE, ROOT, TEMPORARY, Case, built, call, elf, history, process, run, saved
 
 
 class Explanations(Case):
-    def test_refusals_of_changed_files(self) -> None:
-        file = (GUESTS / "exit.elf").read_bytes()
-        self.assertEqual(len(file), 92)
-        for size, number in [(0, 1), (51, 1), (52, 7), (83, 7), (84, 9), (91, 9)]:
-            self.refused(file[:size], number)
-        for offset, value, number in ((0, b"\0", 2), (4, b"\2", 3), (5, b"\2", 3), (6, b"\2", 3), (16, b"\3\0", 4),
-                                      (18, b"\4\0", 5), (36, b"\1", 6), (20, b"\2", 7), (42, b"\x21", 7),
-                                      (44, b"\0", 7),
-                                      (52, b"\2", 8), (72, b"\1", 9), (76, b"\7", 11), (24, b"\1", 13)):
-            self.refused(file[:offset] + value + file[offset + len(value):], number)
-        self.refused(file + bytes(1048577 - 92), 0)
-
-    def test_refusals_of_notes_without_room(self) -> None:
-        file = built(ONE, 17 * (0,), 32)
-        guestfile.check(file)
-        self.refused(file[:168] + b"\1" + file[169:], 12)
-        self.refused(file[:168] + b"\3" + file[169:], 12)
-        self.refused(built(ONE, 33 * (0,), 1), 12)
-        self.refused(built(ONE, (0,), 33), 12)
-
-    def refused(self, file: Any, number: Any) -> None:
-        with self.assertRaises(guestfile.Refused) as refused:
-            guestfile.check(file)
-        self.assertEqual(refused.exception.number, number)
+    def test_refusals(self) -> None:
+        """Of files that were cut or changed, and of notes without room."""
+        file, full = (GUESTS / "exit.elf").read_bytes(), built(ONE, 17 * (0,), 32)
+        self.assertEqual((len(file), guestfile.refusal(full)), (92, None))
+        changed = ((0, b"\0", 2), (4, b"\2", 3), (5, b"\2", 3), (6, b"\2", 3), (16, b"\3\0", 4), (18, b"\4\0", 5),
+                   (36, b"\1", 6), (20, b"\2", 7), (42, b"\x21", 7), (44, b"\0", 7), (52, b"\2", 8), (72, b"\1", 9),
+                   (76, b"\7", 11), (24, b"\1", 13))
+        for other, number in (
+                *((file[:size], number) for size, number in ((0, 1), (51, 1), (52, 7), (83, 7), (84, 9), (91, 9))),
+                *((file[:at] + value + file[at + len(value):], number) for at, value, number in changed),
+                (file + bytes(1048577 - 92), 0), *((full[:168] + value + full[169:], 12) for value in (b"\1", b"\3")),
+                (built(ONE, 33 * (0,), 1), 12), (built(ONE, (0,), 33), 12)):
+            self.assertEqual(getattr(guestfile.refusal(other), "number", None), number, other[:200])
 
     def test_file_cut_short_says_so(self) -> None:
         path = saved("short.elf", (GUESTS / "first.elf").read_bytes()[:200])
@@ -53,8 +41,7 @@ class Explanations(Case):
         self.says("the file has 200 bytes: 96 are missing, so it may be cut short", done)
 
     def test_faults(self) -> None:
-        known = json.loads((GUESTS / "facts.json").read_text())["faults"]
-        text = run("simulate", elf("faults"), "1", "1000", "0").stdout
+        known, text = FACTS["faults"], run("simulate", elf("faults"), "1", "1000", "0").stdout
         said = run("explain", elf("faults"), "-", given=text).stdout.decode()
         for thread, (end, pc) in enumerate(zip(known["ends"], known["pc"])):
             line = re.search(f"^  thread {thread}: (.*)$", said, re.M)[1]  # type: ignore[index]
@@ -144,14 +131,6 @@ class Tables(Case):
         self.assertEqual(lock["fairness"], round((2 + 3 + 1)**2 / (3 * (4 + 9 + 1)), 3))
         self.assertEqual([(row["waiting"], row["longest_wait"]) for row in counts["by_thread"]], [(2, 2), (3, 3), (1, 1)])
 
-    def test_draw(self) -> None:
-        for name in ("counter", "philosophers"):
-            _, text = history(name, 4, 8, 1)
-            picture = run("draw", "-", given=text).stdout.decode()
-            self.assertTrue(picture.startswith("<svg") and picture.endswith("</svg>\n"))
-            self.assertNotIn("<script", picture)
-            self.assertIn("away from the thread", picture)
-
     def test_draw_by_hand(self) -> None:
         lanes = run("draw", "-", "--text", given=FINISHED).stdout.decode()
         for lane in ("thread 0  st  .x", "thread 1    sA .", "worker 0  00 10", "worker 1    1  1"):
@@ -200,7 +179,9 @@ def stamps(done: CompletedProcess[bytes]) -> list[int]:
     return list(map(int, re.findall(r"^block (\d+) ", done.stdout.decode(), re.M)))
 
 
-class Filters(Case):
+class Explained(Case):
+    """What explain says of chosen blocks, of a block's turns, and of contexts."""
+
     def test_blocks_that_are_chosen(self) -> None:
         for words, wanted in (((), [0, 1, 2, 3, 4, 5]), (("--thread", "1"), [2, 3, 5]), (("--lock", "0"), [0, 1, 2, 3]),
                               (("--block", "1-3"), [1, 2, 3]), (("--block", "4"), [4]),
@@ -208,14 +189,6 @@ class Filters(Case):
             done = explained(*words)
             self.assertEqual((done.returncode, done.stderr, stamps(done)), (0, b"", wanted), words)
 
-    def test_wrong_choices(self) -> None:
-        for words, status in ((("--thread", "2"), 3), (("--lock", "1"), 3), (("--block", "6"), 3), (("--trace", "6"), 3),
-                              (("--block", "3-2"), 1), (("--block", "x"), 1), (("--block", "1-"), 1), (("--thread", "-1"), 1),
-                              (("--trace", "1.5"), 1)):
-            self.one_line(explained(*words), status)
-
-
-class Traces(Case):
     def test_a_section_on_paper(self) -> None:
         """Block 3 is the section of thread 1: it finds 1, which thread 0 left, and leaves 2."""
         done = explained("--trace", "3")
@@ -245,8 +218,6 @@ class Traces(Case):
                 self.assertEqual(len(said), block.turns + 1, (name, block))
                 run_.follow(block)
 
-
-class Contexts(Case):
     def test_hand_overs_on_paper(self) -> None:
         """Thread 1 has set t0, a0, a7 and has a1 (its number) and sp when it comes to its LOCK with worker 1;
         worker 0 runs its section, which sets t2, and worker 1 goes on."""
@@ -302,8 +273,7 @@ class OfTheCompiler(Case):
         path = with_debug_data()
         found = sources.load(str(path), guestfile.load(str(path)))
         self.assertEqual(found.text(0x10028), "first.c:12 total.sum += argument;")
-        told = subprocess.run(["riscv64-unknown-elf-objdump", "--dwarf=decodedline", path], stdout=subprocess.PIPE,
-                              check=True, text=True).stdout
+        told = process("riscv64-unknown-elf-objdump", "--dwarf=decodedline", path).stdout.decode()
         last = {int(address, 16): (name, line) for name, line, address in
                 re.findall(r"^(\S+) +(\d+|-) +0x([0-9a-f]+)", told, re.M)}
         lines = {address: (name, int(line)) for address, (name, line) in last.items() if line.isdigit() and name.endswith(".c")}
@@ -324,6 +294,5 @@ class OfTheCompiler(Case):
         bare.mkdir()
         for name in ("sh", "python3", "readlink"):
             (bare / name).symlink_to(shutil.which(name) or "/none")
-        done = subprocess.run([ROOT / "workbench", "explain", path, "-"], input=report, capture_output=True,
-                              check=False, env={"PATH": str(bare)})
+        done = process(ROOT / "workbench", "explain", path, "-", input=report, env={"PATH": str(bare)})
         self.one_line(done, 0, "is on the PATH to read it")

@@ -14,7 +14,7 @@ import errno
 import gc
 import os
 import sys
-from typing import Callable, IO, Iterator, NoReturn
+from typing import Any, Callable, IO, Iterator, NoReturn
 
 from . import limits
 
@@ -35,8 +35,16 @@ class Words(argparse.ArgumentParser):
     """The words of a tool. Wrong ones are one line."""
 
     def error(self, message: str) -> NoReturn:
-        usage = " ".join(self.format_usage().split())
-        raise Trouble(WORDS, f"{message}; {usage}")
+        raise Trouble(WORDS, f"{message}; {' '.join(self.format_usage().split())}")
+
+    def number(self, name: str, limits: tuple[int, int], says: str | None = None, usual: int | None = None,
+               metavar: str | None = "N", **more: Any) -> None:
+        """A word that is a number in these limits."""
+        self.add_argument(name, metavar=metavar, type=number(*limits), help=says, default=usual, **more)
+
+    def report(self, says: str = "a report; - is standard input", **more: Any) -> None:
+        """The word of a report's file."""
+        self.add_argument("report", metavar="REPORT", help=says, **more)
 
 
 def called(tool: str) -> str:
@@ -51,8 +59,19 @@ def words(tool: str, description: str | None, *first: str) -> Words:
     if "guest" in first:
         parser.add_argument("guest", metavar="GUEST", help="the guest's file")
     for name, (least, most) in limits.RUN.items() if "run" in first else ():
-        parser.add_argument(name, metavar=name.upper(), type=number(least, most), help=f"{least} to {most}")
+        parser.number(name, (least, most), f"{least} to {most}", metavar=name.upper())
     return parser
+
+
+def of_run(asked: argparse.Namespace) -> dict[str, int]:
+    """The numbers of a run that were asked for."""
+    return {name: getattr(asked, name) for name in limits.RUN if getattr(asked, name) is not None}
+
+
+def make_folder(path: Path | str) -> None:
+    """A folder that is there from now on."""
+    with writing(path):
+        os.makedirs(path, exist_ok=True)
 
 
 def number(least: int, most: int) -> Callable[[str], int]:
@@ -73,8 +92,8 @@ def opened(path: Path | str) -> Iterator[IO[bytes]]:
         with open(path, "rb") if path != "-" else sys.stdin.buffer as file:
             yield file
     except OSError as error:
-        raise Trouble(INPUT,
-                      f"{'standard input' if path == '-' else path}: {error.strerror or error}") from None
+        named = "standard input" if path == "-" else path
+        raise Trouble(INPUT, f"{named}: {error.strerror or error}") from None
 
 
 @contextlib.contextmanager

@@ -20,7 +20,7 @@ from pathlib import Path
 import tempfile
 import types
 
-from .. import limits, places, tool
+from .. import limits, places
 from ..guest import model
 from ..reports import report
 from . import guests, process, table
@@ -109,9 +109,9 @@ def main(words: list[str]) -> int:
     parser = process.words("peer", __doc__, known, "all")
     process.add_number(parser, "fuel", limits.RUN["fuel"][1], "of each thread")
     process.add_number(parser, "runs", 5, "of each")
-    parser.add_argument("-c", dest="core", metavar="CORE", type=tool.number(0, 9999),
-                        default=max(os.sched_getaffinity(0)), help="the processor on which all runs (the last one)")
-    asked = process.parsed(parser, words, known, os.sched_getaffinity(0))
+    cores = os.sched_getaffinity(0)
+    parser.number("-c", (0, 9999), "the processor on which all runs (the last one)", max(cores), "CORE", dest="core")
+    asked = process.parsed(parser, words, known, cores)
     os.sched_setaffinity(0, {asked.core})
     with tempfile.TemporaryDirectory() as folder:
         peer, to = process.compiled("peer.c", folder, "-pthread"), table.Table("peer", asked, COLUMNS)

@@ -40,9 +40,7 @@ def words(bench: str, doc: str | None, known: Iterable[str], usual: str, *first:
 
 def add_number(parser: tool.Words, name: str, usual: int, says: str) -> None:
     """A word for a number of a run: -b, -f; or -r for how many runs there are."""
-    least, most = limits.RUN.get(name, (1, 9999))
-    parser.add_argument(f"-{name[0]}", dest=name, metavar=name.upper(), type=tool.number(least, most), default=usual,
-                        help=f"{says} ({usual})")
+    parser.number(f"-{name[0]}", limits.RUN.get(name, (1, 9999)), f"{says} ({usual})", usual, name.upper(), dest=name)
 
 
 def add_list(parser: tool.Words, name: str, usual: list[int], says: str, least: int = 1) -> None:

@@ -42,8 +42,7 @@ def counter() -> Counter | None:
 
 
 def counted(name: str, asked: Namespace, fuel: int, how: Counter) -> tuple[int, int] | None:
-    """The instructions of one worker's run with that fuel, and its turns. None where they were not
-    counted."""
+    """The instructions of one worker's run with that fuel, and its turns; None where none were counted."""
     words, form = how
     command = words + [*map(str, (program.PATH, "run", 1, fuel, asked.batch))]
     ran = subprocess.run(command, input=guests.GUESTS[name](), capture_output=True)
@@ -68,8 +67,7 @@ def instructions(name: str, asked: Namespace, how: Counter | None) -> tuple[floa
 
 
 def ran(name: str, workers: int, asked: Namespace) -> tuple[process.Took, tuple[int, int, int]] | None:
-    """One run of a guest: what it took, and its turns, blocks and bytes of report. None where it did not end with
-    status 0."""
+    """What a run of a guest took, its turns, blocks and bytes of report; None where its status isn't 0."""
     words = "run", workers, asked.fuel, asked.batch
     with process.over(guests.GUESTS[name](), words) as (status, took, written):
         if status:
@@ -79,8 +77,7 @@ def ran(name: str, workers: int, asked: Namespace) -> tuple[process.Took, tuple[
 
 
 def measure(name: str, workers: int, asked: Namespace, how: Counter | None, to: table.Table) -> None:
-    """Runs one guest and prints its line. Instructions are those of one worker, since several share the work
-    otherwise in each run."""
+    """Runs a guest and prints its line. Instructions are of one worker: several share work in other ways."""
     runs = [one for one in (ran(name, workers, asked) for _ in range(asked.runs)) if one is not None]
     if len(runs) < asked.runs:
         to.failed = True
@@ -102,8 +99,7 @@ def main(words: list[str]) -> int:
     asked = process.parsed(parser, words, guests.GUESTS)
     names = asked.guests or list(guests.GUESTS)
     if asked.folder is not None:
-        with tool.writing(asked.folder):
-            asked.folder.mkdir(parents=True, exist_ok=True)
+        tool.make_folder(asked.folder)
         for name in names:
             tool.write_file(asked.folder / f"{name}.elf", guests.GUESTS[name]())
         return tool.DONE

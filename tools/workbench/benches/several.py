@@ -86,8 +86,7 @@ def loops_of(asked: Namespace, loop: Path | None) -> Any:
 
 
 def shared_loop(asked: Namespace, seconds: float, loops: list[list[float]], loop: Path | None) -> float:
-    """The seconds of a loop that takes as long as the guest, by the most threads that share its turns, in those by the
-    fewest."""
+    """The seconds of a loop as long as the guest, by the most threads that share it to those by the fewest."""
     turns = int(LOOP_TURNS * seconds / asked.told(first for first, _ in loops))
     runs = [[looped(asked, loop, threads, turns // threads) for threads in (asked.workers[0], asked.workers[-1])]
             for _ in range(asked.runs)]

@@ -232,7 +232,7 @@ def tried(trial: Callable[[Place, int], str], folder: pathlib.Path, runs: int) -
 
 def main(words: list[str]) -> int | None:
     parser = tool.words("endure", __doc__)
-    parser.add_argument("runs", metavar="RUNS", nargs="?", default=1000, type=tool.number(1, 1_000_000))
+    parser.number("runs", (1, 1_000_000), usual=1000, metavar="RUNS", nargs="?")
     runs, passed = parser.parse_args(words).runs, 0
     program.need()
     count = 0

@@ -131,8 +131,8 @@ def judge_histories(file: Any, options: Any, text: Any, draw: Any, kept: Any) ->
 
 def main(words: list[str]) -> int | None:
     parser = tool.words("fuzz", __doc__)
-    parser.add_argument("count", metavar="COUNT", nargs="?", default=200, type=tool.number(1, 1_000_000))
-    parser.add_argument("seed", metavar="SEED", nargs="?", default=1, type=tool.number(0, 2**32))
+    parser.number("count", (1, 1_000_000), usual=200, metavar="COUNT", nargs="?")
+    parser.number("seed", (0, 2**32), usual=1, metavar="SEED", nargs="?")
     asked = parser.parse_args(words)
     program.need()
     draw, changes, failed = Draw(asked.seed), random.Random(asked.seed), 0

@@ -116,8 +116,8 @@ def refuse_each(library: pathlib.Path, case: Case, times: int, later: bool) -> t
 def asked(given: list[str]) -> tuple[tuple[str, ...], bytes]:
     """The words and the file of the run."""
     parser = tool.words("refuse", __doc__)
-    for (name, (least, most)), usual in zip(limits.RUN.items(), (2, 2000, 8)):
-        parser.add_argument(name, metavar=name[0].upper(), nargs="?", default=usual, type=tool.number(least, most))
+    for (name, some), usual in zip(limits.RUN.items(), (2, 2000, 8)):
+        parser.number(name, some, usual=usual, metavar=name[0].upper(), nargs="?")
     parser.add_argument("guest", metavar="GUEST", nargs="?", help="a guest's file")
     words = parser.parse_args(given)
     file = guestfile.read(words.guest) if words.guest else made.counting(THREADS)

@@ -42,18 +42,16 @@ def window(asked: Namespace, count: int) -> tuple[int, int]:
 
 def main(words: list[str]) -> None:
     parser = tool.words("draw", __doc__)
-    parser.add_argument("report", metavar="REPORT", help="a report; - is standard input")
+    parser.report()
     forms = parser.add_mutually_exclusive_group()
     forms.add_argument("--text", action="store_const", dest="form", const=textlanes.show, help="for a terminal")
     forms.add_argument("--trace", action="store_const", dest="form", const=traceevents.show, help="trace events, JSON")
     forms.add_argument("--page", action="store_const", dest="form", const=print_page,
                        help="a page that steps through the run, HTML")
     parser.add_argument("--guest", metavar="GUEST", help="the guest's file, for names, and for the page's bytes")
-    parser.add_argument("--from", metavar="A", dest="first", type=tool.number(0, 10**9), default=0,
-                        help="the first block that is drawn")
-    parser.add_argument("--to", metavar="B", type=tool.number(0, 10**9), help="the last block that is drawn")
-    parser.add_argument("--most", metavar="N", type=tool.number(1, 100000), default=MOST,
-                        help=f"draw each block where there are at most N, else columns ({MOST})")
+    parser.number("--from", (0, 10**9), "the first block that is drawn", 0, "A", dest="first")
+    parser.number("--to", (0, 10**9), "the last block that is drawn", metavar="B")
+    parser.number("--most", (1, 100000), f"draw each block where there are at most N, else columns ({MOST})", MOST)
     parser.add_argument("--title", metavar="TEXT", help="the picture's heading")
     parser.add_argument("--colour", action="store_true", help="with --text: colours even into a file")
     asked = parser.parse_args(words)

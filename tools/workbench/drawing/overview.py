@@ -3,11 +3,12 @@ show is counted for each column, so that a span of time tells what it was made o
 from __future__ import annotations
 
 from collections import Counter
-from itertools import accumulate
+from itertools import accumulate, count
 from typing import Any, Iterable, Iterator
 
 from ..guest import names
-from ..reports import report, timeline
+from ..limits import SECTIONS
+from ..reports import timeline
 from . import svg
 
 COLUMNS, WIDE = 160, 960  # how many columns there are at most, and how wide all are
@@ -18,21 +19,10 @@ STATES = (("runs", "#0072B2"), ("waits for a lock", "#E69F00"), ("asleep with lo
 SHOWN = {timeline.WAITING: 1, timeline.SHIPPED: 1, timeline.ASLEEP: 2}
 
 
-def kind_of(block: report.Block) -> int:
-    """The place of a block in KINDS."""
-    if not block.held:
-        return 0
-    return 1 if block.kind in ("on", "start") else 2 + ("taken", "adopted", "granted").index(block.kind)
-
-
 def round_size(least: float) -> int:
     """The least of 10, 20, 25, 50, 100, 200 .. that is no less."""
-    size = 10
-    while True:
-        for times in (1, 2, 2.5, 5):
-            if size * times >= least:
-                return int(size * times)
-        size *= 10
+    sizes = (int(times * 10 ** power) for power in count(1) for times in (1, 2, 2.5, 5))
+    return next(size for size in sizes if size >= least)
 
 
 class Columns:
@@ -56,7 +46,8 @@ class Columns:
     def add_block(self, mark: timeline.Mark) -> None:
         block = mark.block
         column = self.column(block.stamp - self.first)
-        self.kinds[column][kind_of(block)] += 1
+        kind = SECTIONS.index(block.kind) + 2 if block.begun is not None else 1 if block.held else 0
+        self.kinds[column][kind] += 1
         self.workers[column][block.worker, block.held[-1] if block.held else -1] += 1
         self.threads[column][block.thread, 0] += 1
         for lock in block.held:

@@ -6,13 +6,14 @@ from __future__ import annotations
 import json
 import pathlib
 import struct
+from itertools import chain
 from typing import Any, Sequence
 
 from .. import limits, tool
 from ..guest import guestfile, model, names, sources
 from ..judging import legal, reasons
 from ..reports import report, timeline
-from . import svg
+from . import svg, textlanes
 
 PAGE = pathlib.Path(__file__).resolve().parent / "page.html"
 MOST = 50000  # blocks of a page
@@ -63,8 +64,8 @@ class Player:
             note = "" if len(shown) == len(values) else f"{len(shown)} of its {len(values)} words"
             words.append({"values": [values[place] for place in shown], "note": note,
                           "addresses": [lock.addresses.start + 4 * place for place in shown]})
-        changes = [[flat(registers), flat((lock, places[lock, place], change) for lock, place, change in changed
-                                          if (lock, place) in places)]
+        changes = [[[*chain(*registers)], [*chain(*((lock, places[lock, place], change)
+                                                    for lock, place, change in changed if (lock, place) in places))]]
                    for registers, changed in self.changes]
         return {"registers": self.registers, "words": words, "changes": changes}
 
@@ -76,10 +77,6 @@ def state(thread: model.Thread) -> list[int]:
 
 def in_words(content: bytes) -> tuple[int, ...]:
     return struct.unpack(f"<{len(content) // 4}I", content)
-
-
-def flat(rows: Any) -> list[int]:
-    return [value for row in rows for value in row]
 
 
 def played(guest: tuple[guestfile.GuestFile, sources.Sources], line: timeline.Timeline, first: int, last: int) -> Player:
@@ -106,22 +103,14 @@ def row(mark: timeline.Mark, start: int, note: str) -> list[Any]:
 
 def nearest(marks: Any, threads: int) -> list[list[Any] | None]:
     """Of each thread the first of some marks that is its own, or None."""
-    found: list[list[Any] | None] = [None] * threads
-    for mark in marks:
-        if found[mark.block.thread] is None:
-            found[mark.block.thread] = row(mark, 0, "")
-            if None not in found:
-                break
-    return found
+    return [next((row(mark, 0, "") for mark in marks if mark.block.thread == thread), None)
+            for thread in range(threads)]
 
 
 def broken_by(marks: list[timeline.Mark], locks: int) -> list[int]:
     """Of each lock the stamp of the block that broke it, or -1: whose thread ended with it."""
-    found = [-1] * locks
-    for mark in marks:
-        for lock in mark.block.held if mark.block.ends_thread else ():
-            found[lock] = mark.block.stamp if found[lock] < 0 else found[lock]
-    return found
+    found = {lock: mark.block.stamp for mark in reversed(marks) if mark.block.ends_thread for lock in mark.block.held}
+    return [found.get(lock, -1) for lock in range(locks)]
 
 
 def data(line: timeline.Timeline, called: names.Names, first: int, last: int, title: str,
@@ -135,9 +124,9 @@ def data(line: timeline.Timeline, called: names.Names, first: int, last: int, ti
         rows.append(row(mark, texts.setdefault(start, len(texts)), player.notes.get(block.stamp, "") if player else ""))
     return {"title": title, "what": line.text.title(), "first": first, "workers": line.text.workers,
             "threads": called.threads, "locks": [{"name": name} for name in called.locks],
-            "lockColours": [(svg.COLOURS[lock % 7], lock % 7 in svg.WHITE_LETTERS) for lock in range(line.text.guards)],
-            "workerColours": [(colour, place in svg.WHITE_WORKERS) for place, colour in enumerate(svg.WORKERS)],
-            "blocks": rows, "before": nearest(reversed(line.marks[:first]), threads),
+            "lockColours": [textlanes.by_lock(lock) for lock in range(line.text.guards)],
+            "workerColours": [textlanes.by_worker(worker) for worker in range(len(svg.WORKERS))],
+            "blocks": rows, "before": nearest(line.marks[:first][::-1], threads),
             "behind": nearest(line.marks[last + 1:], threads),
             "broken": broken_by(line.marks, line.text.guards), "starts": list(texts),
             **(player.data() if player else {"registers": None, "words": None, "changes": []})}

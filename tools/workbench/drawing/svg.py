@@ -5,6 +5,7 @@ by letters and outlines too, locks and workers by numbers, and the boxes of work
 from __future__ import annotations
 
 import html
+import textwrap
 from collections import Counter
 from typing import Any, Iterator
 
@@ -21,6 +22,7 @@ YELLOW, THIN = 6, (timeline.WAITING, timeline.HOLDS)
 PLAIN = "#CFCFCF"  # a block without a lock
 NOBODY = "#888"  # a lock that no worker has
 LETTERS = {"start": "s", "on": "", "taken": "T", "adopted": "A", "granted": "G"}
+AWAY, MOVED = "l-5 -6h10z", "v-4h8v-2l5 4l-5 4v-2z"  # the shapes of marks
 UNIT, HEIGHT, LANE, STRIP, NARROWEST = 14, 18, 26, 80, 860
 
 STYLE = """text{font:11px 'DejaVu Sans',Verdana,sans-serif}
@@ -82,11 +84,11 @@ def block_parts(x: float, y: int, block: report.Block, letter: str, away: bool) 
         kind = "l" + " d" * dark + " n" * (len(letter) > 1)
         yield label(x + UNIT / 2, y + 13, letter, kind, "" if dark else "#fff")
     if away:
-        yield away_mark(x + UNIT / 2, y)
+        yield mark(x + UNIT / 2, y - 1, AWAY)
 
 
-def away_mark(x: float, y: int) -> str:
-    return f'<path d="M{x:g} {y - 1:g}l-5 -6h10z"/>'
+def mark(x: float, y: int, shape: str) -> str:
+    return f'<path d="M{x:g} {y:g}{shape}"/>'
 
 
 def worker_parts(x: float, y: int, worker: int, moved: bool = False) -> Iterator[str]:
@@ -95,11 +97,7 @@ def worker_parts(x: float, y: int, worker: int, moved: bool = False) -> Iterator
            f'fill="{WORKERS[worker]}"/>')
     yield label(x + UNIT / 2, y + 13, f"{worker}", "l", "#fff" if worker in WHITE_WORKERS else "")
     if moved:
-        yield moved_mark(x, y)
-
-
-def moved_mark(x: float, y: int) -> str:
-    return f'<path d="M{x:g} {y - 4:g}v-4h8v-2l5 4l-5 4v-2z"/>'
+        yield mark(x, y - 4, MOVED)
 
 
 def chip(x: float, y: float, lock: int) -> str:
@@ -144,26 +142,20 @@ class Picture:
 
     def text(self, line: str) -> None:
         """A sentence, in as many lines as it needs."""
-        most, row = int((self.width - 20) / 6), ""
-        for word in line.split(" "):
-            if row and len(row) + len(word) >= most:
-                self.add(label(10, self.height + 12, row), 16)
-                row = ""
-            row += " " * bool(row) + word
-        self.add(label(10, self.height + 12, row), 16)
+        most = int((self.width - 20) / 6)
+        for row in textwrap.wrap(line, most, break_long_words=False, break_on_hyphens=False):
+            self.add(label(10, self.height + 12, row), 16)
 
     def svg(self, locks: int) -> str:
-        defined = "<defs>"
-        for lock in range(len(COLOURS), locks):  # what tells locks of one colour apart
-            defined += (f'<pattern id="p{lock}" width="6" height="6" patternUnits="userSpaceOnUse">'
-                        f'<rect width="6" height="6" fill="{COLOURS[lock % len(COLOURS)]}"/>{PATTERNS[lock // len(COLOURS)]}</pattern>')
-        defined += "</defs>"
-        return document(self.width, self.height + 10, STYLE, [defined, *self.parts], self.title)
+        patterns = "".join(  # which tell locks of one colour apart
+            f'<pattern id="p{lock}" width="6" height="6" patternUnits="userSpaceOnUse"><rect width="6" height="6" '
+            f'fill="{COLOURS[lock % 7]}"/>{PATTERNS[lock // 7]}</pattern>' for lock in range(len(COLOURS), locks))
+        parts = [f"<defs>{patterns}</defs>", *self.parts]
+        return document(self.width, self.height + 10, STYLE, parts, self.title)
 
 
 def items(names: names.Names, workers: int) -> Iterator[tuple[str, str]]:
-    """The parts of the legend with their texts; the last ones are of the lanes of locks, where there are
-    some."""
+    """The parts of the legend with their texts; the last are of the lanes of locks, where there are some."""
     yield box(0, 0, UNIT, HEIGHT, PLAIN, "on"), "no lock held (s: the thread's start)"
     for lock in range(len(names.locks)):
         yield box(0, 0, UNIT, HEIGHT, fill(lock)), names.lock(lock)
@@ -172,22 +164,18 @@ def items(names: names.Names, workers: int) -> Iterator[tuple[str, str]]:
                        ("granted", "granted: handed on, for any worker")):
         yield (f'<rect class="{kind}" x="1" y="1" width="{UNIT - 2}" height="{HEIGHT - 2}" fill="#fff"/>'
                + label(UNIT / 2, 13, LETTERS[kind], "l"), text)
-    yield away_mark(7, 15), "away from the thread's own worker"
+    yield mark(7, 14, AWAY), "away from the thread's own worker"
     blue = fill(0)
     yield stroke("waiting", blue, 0, 9, 24) + chip(7, 9, 0), "waits for a lock, here lock 0"
     yield stroke("wants", blue, 0, 9, 24) + chip(7, 9, 0), "wants a lock, and finds it free"
     yield stroke("asleep", blue, 0, 9, 24) + label(12, 6, "z", "l"), "asleep with locks held"
     yield stroke("shipped", blue, 0, 9, 24), "shipped with locks held (nested)"
     yield stroke("holds", blue, 0, 9, 24), "holds locks between two blocks"
-    if names.locks:
-        yield from worker_items(workers)
-
-
-def worker_items(workers: int) -> Iterator[tuple[str, str]]:
-    """What the lanes of locks have."""
+    if not names.locks:
+        return
     for worker in range(workers):
         yield "".join(worker_parts(0, 0, worker)), f"worker {worker} has the lock"
-    yield moved_mark(0, 14), "in a lock's lane: another worker had it before"
+    yield mark(0, 10, MOVED), "in a lock's lane: another worker had it before"
     yield stroke("has", WORKERS[0], 0, 9, 24), "in a lock's lane: between two blocks"
     yield stroke("nobody", NOBODY, 0, 9, 24), "in a lock's lane: in a package that no worker has"
     yield "", "nothing in a lock's lane: the lock is free"

@@ -135,14 +135,12 @@ class Running:
     def wants(self) -> int | None:
         """The lock that the next instruction lawfully takes, or None."""
         if self.fuel and self.guest.code.at(self.pc) is CALL and number(self.x, 17) == limits.LOCK:
-            wanted, held = number(self.x, 10), self.held()
-            if wanted < self.guest.locks and len(held) < limits.HELD and all(wanted > lock for lock in held):
-                return wanted
+            wanted = number(self.x, 10)
+            return None if model.wrong_call(limits.LOCK, wanted, self.held(), self.guest.locks) else wanted
         return None
 
     def inside(self, address: int, width: int, fault: int) -> tuple[Any, int]:
-        """What an address lies in, and where: a lock that is held, bytes that can't be written, or None for
-        memory of the thread's own."""
+        """What an address lies in, and where: a held lock, bytes that aren't writable, None for own memory."""
         wrong, inside, at = self.guest.places.at(address, width)
         if wrong is not None:
             raise Fault(fault if wrong == 4 else wrong)
@@ -209,22 +207,15 @@ class Running:
         """A guest call. Answers whether it released a lock; None where the block goes on."""
         call, value, answer = number(self.x, 17), number(self.x, 10), 0
         released: bool | None = False
+        wrong = model.wrong_call(call, value, self.held(), self.guest.locks)
+        if wrong:
+            raise Fault(wrong)
         if call == limits.EXIT:
             return self.finish(EXIT)
-        if call not in limits.CALLS or (call == limits.SLEEP and value > limits.SLEPT):
-            raise Fault(9)
-        if call != limits.SLEEP:
-            held = self.held()
-            if value >= self.guest.locks or (call == limits.LOCK and len(held) == limits.HELD):
-                raise Fault(10)
-            if call == limits.LOCK:
-                if any(value <= lock for lock in held):
-                    raise Fault(11)
-                answer, released = self.take(value), None
-            elif value not in held:
-                raise Fault(12)
-            else:
-                self.locks[value].held, released = 0, True
+        if call == limits.LOCK:
+            answer, released = self.take(value), None
+        elif call == limits.UNLOCK:
+            self.locks[value].held, released = 0, True
         self.x[10] = answer
         self.pc = self.pc + 4 & MASK
         return released

@@ -12,6 +12,7 @@ from __future__ import annotations
 
 from argparse import Namespace
 import contextlib
+import functools
 import os
 import signal
 import sys
@@ -25,6 +26,7 @@ from ..reports import report
 from ..running import delegation, program
 from . import rules, search, sections
 
+several = functools.partial(report.several, form=",")
 OPTIONS = [(workers, batch) for batch in (8, 0, 1, 256) for workers in (1, 2, 4, 8)]
 UNDECIDED = 6  # the status where a search stopped before it had an answer
 BATCH = 8  # of the histories that a search prints: any is right where each section is taken
@@ -106,8 +108,7 @@ def show(guest: model.Guest, ends: list[rules.End], most: int, tell: Callable[..
 
 
 def keep(folder: str, histories: Iterator[Any]) -> None:
-    with tool.writing(folder):
-        os.makedirs(folder, exist_ok=True)
+    tool.make_folder(folder)
     for number, lines in enumerate(histories, 1):
         tool.write_file(os.path.join(folder, f"outcome-{number}.txt"), "\n".join(lines) + "\n")
     sys.stdout.flush()
@@ -138,10 +139,6 @@ def history(guest: model.Guest, fuel: int, threads: tuple[int, ...]) -> list[str
     return lines + list(run.ending_lines())
 
 
-def several(count: int, what: str) -> str:
-    return f"{count:,} {what}{'s' * (count != 1)}"
-
-
 def seen_text(found: search.Search) -> str:
     """How much of a guest's interleavings was seen."""
     if found.whole:
@@ -170,8 +167,7 @@ def show_all(guest: model.Guest, found: search.Search, asked: Namespace) -> None
 
 
 def show_answer(guest: model.Guest, found: search.Search, asked: Namespace, rule: str, words: str) -> bool | None:
-    """Prints the answer to a rule, with a history where there is one. Answers whether there is: None
-    where that is not known."""
+    """Prints the answer to a rule, with a history where there is one. Answers whether; None: not known."""
     way = found.answer(rule)
     if way:
         print(f"# {rule}: {words}, by this history of {several(way.blocks, 'block')}")
@@ -289,20 +285,16 @@ def parsed(words: list[str]) -> tuple[Namespace, Any]:
                         help="a history to an end of which RULE holds, as 'lock 0 word 2 == 1'")
     parser.add_argument("--never", metavar="RULE", action="append", default=[],
                         help="status 3 and a history where RULE holds of an end")
-    parser.add_argument("--states", metavar="N", type=tool.number(1, 10**9), default=10**6,
-                        help="search at most N states (1000000)")
+    parser.number("--states", (1, 10**9), "search at most N states (1000000)", 10**6)
     parser.add_argument("--resume", metavar="FILE", help="go on from where the search of these words stopped, and write "
                         "there where this one stops")
-    parser.add_argument("--processes", metavar="N", type=tool.number(1, 64), default=os.cpu_count() or 1,
-                        help="search by N processes (one for each processor)")
-    parser.add_argument("--runs", metavar="N", type=tool.number(1, 100000), help="samples: how many by each (32)")
-    parser.add_argument("--seed", metavar="N", type=tool.number(0, 10**9),
-                        help="samples: of the first interleaving (1)")
+    parser.number("--processes", (1, 64), "search by N processes (one for each processor)", os.cpu_count() or 1)
+    parser.number("--runs", (1, 100000), "samples: how many by each (32)")
+    parser.number("--seed", (0, 10**9), "samples: of the first interleaving (1)")
     parser.add_argument("--model", action="store_true", help="samples: by the model alone")
-    parser.add_argument("--fuel", metavar="N", type=tool.number(*limits.RUN["fuel"]), default=20000, help="(20000)")
+    parser.number("--fuel", limits.RUN["fuel"], "(20000)", 20000)
     parser.add_argument("--keep", metavar="FOLDER", help="write a history of each outcome into it")
-    parser.add_argument("--most", metavar="N", type=tool.number(1, 100000), default=10,
-                        help="show at most N outcomes (10)")
+    parser.number("--most", (1, 100000), "show at most N outcomes (10)", 10)
     asked = parser.parse_args(words)
     searches = asked.all or asked.reach or asked.never
     if searches and not (asked.all and asked.runs) and (asked.model or asked.runs or asked.seed is not None):

@@ -98,9 +98,8 @@ def graded(name: str, path: pathlib.Path, asked: Namespace) -> Graded:
                 tool.note("grade", f"{name} is not built: {wrong}")
                 return Graded(name, "not built", ["-"] * len(asked.rules), {})
             file = made
-        try:
-            guestfile.check(guestfile.read(file))
-        except guestfile.Refused as refused:
+        refused = guestfile.refusal(guestfile.read(file))
+        if refused:
             return Graded(name, refused.line, ["-"] * len(asked.rules), {})
         answers = [rule.answer(file, asked) for rule in asked.rules]
     return Graded(name, "accepted", [said for said, _ in answers],
@@ -109,8 +108,7 @@ def graded(name: str, path: pathlib.Path, asked: Namespace) -> Graded:
 
 def keep(folder: str, one: Graded) -> None:
     """Writes a guest's histories."""
-    with tool.writing(folder):
-        os.makedirs(folder, exist_ok=True)
+    tool.make_folder(folder)
     for number, history in one.histories.items():
         name = re.sub(r"[^\w.-]", "-", one.name)
         tool.write_file(os.path.join(folder, f"{name}-rule-{number}.txt"), history)
@@ -139,9 +137,8 @@ def asked_of(words: list[str]) -> Namespace:
     parser.add_argument("folder", metavar="FOLDER", help="of guests")
     for kind in ("never", "reach"):
         parser.add_argument(f"--{kind}", metavar="RULE", action="append", default=[])
-    parser.add_argument("--fuel", metavar="N", type=tool.number(*limits.RUN["fuel"]), default=20000, help="(20000)")
-    parser.add_argument("--states", metavar="N", type=tool.number(1, 10**9), default=200_000,
-                        help="search at most N states for each rule (200000)")
+    parser.number("--fuel", limits.RUN["fuel"], "(20000)", 20000)
+    parser.number("--states", (1, 10**9), "search at most N states for each rule (200000)", 200_000)
     parser.add_argument("--march", choices=("rv32i", "rv32im"), default="rv32im", help="of sources (rv32im)")
     parser.add_argument("--keep", metavar="FOLDER", dest="kept", help="write the histories into it")
     parser.add_argument("--csv", action="store_true", help="a line for each guest and rule")

@@ -40,8 +40,7 @@ class End(NamedTuple):
     locks: Tuple[Tuple[int, int, bytes], ...]
 
     def order(self) -> tuple[int, int, int, End]:
-        """What an order of ends goes by: those with faults first, then those with spent threads, and with
-        broken locks."""
+        """What orders ends: those with faults come first, then with spent threads, then with broken locks."""
         hows = [how for how, _ in self.threads]
         return (-sum(how.startswith("fault") for how in hows), -hows.count("spent"),
                 -sum(broken for broken, _, _ in self.locks), self)

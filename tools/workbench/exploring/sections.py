@@ -171,8 +171,7 @@ class Sections:
         return x, pc, fuel, pages, content[at - held:at]
 
     def first(self) -> tuple[bytes, int]:
-        """The state in which each thread has come to its first LOCK or to its end, and how many blocks
-        these are."""
+        """The state in which each thread is at its first LOCK or its end, and how many blocks these are."""
         names, count = [], 0
         for thread in self.machine.threads:
             run = blocks.Running(self.guest, thread.x, thread.pc, thread.fuel, {}, (), lambda lock: (0, 0, b""))

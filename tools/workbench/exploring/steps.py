@@ -17,8 +17,7 @@ MASK = 0xFFFFFFFF
 
 
 class Sum:
-    """A word of a lock as a section found it, with a number that was added to it; what the word is was not
-    looked at so far."""
+    """A word of a lock as a section found it, not looked at so far, and a number that was added to it."""
 
     __slots__ = ("lock", "word", "found", "added")
 
@@ -164,6 +163,8 @@ class Code:
             return raising(1)
         name, to, a, b, value = what
         after = pc + 4 & MASK
+        if not to and name in (*model.OPERATIONS, *model.IMMEDIATES):
+            return constant(0, 0, after)
         if name in ("lui", "auipc"):
             return constant(to, value + (pc if name == "auipc" else 0) & MASK, after)
         if name == "jal":
@@ -251,9 +252,8 @@ def store(a: int, b: int, offset: int, width: int, after: int) -> Step:
 
 def added(to: int, a: int, value: int, after: int) -> Step:
     def step(x: Registers, run: blocks.Running) -> int:
-        if to:
-            before = x[a]
-            x[to] = before.plus(value) if isinstance(before, Sum) else before + value & MASK
+        before = x[a]
+        x[to] = before.plus(value) if isinstance(before, Sum) else before + value & MASK
         return after
     return step
 
@@ -268,24 +268,21 @@ def sum_of(to: int, a: int, b: int, sign: int, after: int) -> Step:
             else:
                 second = number(x, b)
                 first = x[a]  # which may be the same register
-        if to:
-            assert not isinstance(second, Sum)
-            x[to] = first.plus(sign * second) if isinstance(first, Sum) else first + sign * second & MASK
+        assert not isinstance(second, Sum)
+        x[to] = first.plus(sign * second) if isinstance(first, Sum) else first + sign * second & MASK
         return after
     return step
 
 
 def with_immediate(to: int, a: int, value: int, operation: Operation, after: int) -> Step:
     def step(x: Registers, run: blocks.Running) -> int:
-        if to:
-            x[to] = operation(number(x, a), value) & MASK
+        x[to] = operation(number(x, a), value) & MASK
         return after
     return step
 
 
 def with_registers(to: int, a: int, b: int, operation: Operation, after: int) -> Step:
     def step(x: Registers, run: blocks.Running) -> int:
-        if to:
-            x[to] = operation(number(x, a), number(x, b)) & MASK
+        x[to] = operation(number(x, a), number(x, b)) & MASK
         return after
     return step

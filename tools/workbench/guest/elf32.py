@@ -103,8 +103,7 @@ def text_at(content: bytes, place: int) -> str:
 
 
 def sections(file: bytes) -> list[Section]:
-    """The sections, where the section headers are those of a file of 32 bits; none of them need be right, for
-    the program reads none."""
+    """The sections, by section headers of 32 bits; none need be right, for the program reads none."""
     at, size, count, names = word(file, 32), *struct.unpack_from("<3H", file, 46)
     if size != 40 or at + size * count > len(file):
         return []

@@ -38,8 +38,7 @@ def code(text: str, **numbers: int) -> list[int]:
 
 
 def elf(notes: bytes, words: Any, data: bytes, memory: int) -> bytes:
-    """A file of notes, of code at CODE and of data at DATA, which zeros follow up to so many bytes of
-    memory."""
+    """A file of notes, of code at CODE and of data at DATA, with zeros up to so many bytes of memory."""
     code = struct.pack(f"<{len(words)}I", *words)
     return elf32.written(CODE, [(elf32.NOTE, 0, notes, len(notes), 4), (elf32.LOAD, CODE, code, len(code), 5),
                                 (elf32.LOAD, DATA, data, memory, 6)])

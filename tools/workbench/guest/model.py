@@ -6,7 +6,7 @@ accepts; it refuses none itself.
 """
 from __future__ import annotations
 
-from typing import Any, Callable, Iterator
+from typing import Any, Callable, Collection, Iterator
 from .. import limits
 from . import elf32, rv32im
 from .rv32im import signed
@@ -79,8 +79,7 @@ class Guest:
 
 
 class Thread:
-    """Registers, memory of its own, fuel, held locks, how many blocks it ran, for how many
-    blocks it sleeps, how it ended."""
+    """Registers, memory of its own, fuel, held locks, blocks that it ran and sleeps for, how it ended."""
 
     def __init__(self, guest: Guest, number: int, fuel: int) -> None:
         self.pc, argument = guest.entries[number]
@@ -117,12 +116,9 @@ class Machine:
 
     def next_lock(self, thread: Thread) -> int | None:
         """The lock that the next instruction lawfully takes, or None."""
-        wanted = thread.x[10]
-        if (thread.fuel > 0 and self.guest.word(thread.pc) == ECALL and thread.x[17] == limits.LOCK
-                and wanted < len(self.locks) and len(thread.held) < limits.HELD
-                and all(wanted > lock for lock in thread.held)):
-            return wanted
-        return None
+        takes = (thread.fuel > 0 and self.guest.word(thread.pc) == ECALL and thread.x[17] == limits.LOCK
+                 and not wrong_call(limits.LOCK, thread.x[10], thread.held, len(self.locks)))
+        return thread.x[10] if takes else None
 
     def able(self) -> Iterator[int]:
         """The threads that can run a block."""
@@ -184,27 +180,24 @@ class Machine:
         return end
 
     def call(self, number: int, thread: Thread) -> str | None:
-        call, value = thread.x[17], thread.x[10]
+        call, value, answer, end = thread.x[17], thread.x[10], 0, None
+        wrong = wrong_call(call, value, thread.held, len(self.locks))
+        if wrong:
+            raise Fault(wrong)
         if call == limits.EXIT:
             return self.finish(thread, "exit")
-        if call not in limits.CALLS or (call == limits.SLEEP and value > limits.SLEPT):
-            raise Fault(9)
-        end: str | None = None
         if call == limits.SLEEP:
-            thread.slept, answer, end = value, 0, "slept"
-        elif value >= len(self.locks) or (call == limits.LOCK and len(thread.held) == limits.HELD):
-            raise Fault(10)
+            thread.slept, end = value, "slept"
         elif call == limits.LOCK:
             answer = self.take(number, thread, value)
         else:
-            answer, end = self.release(thread, value), f"unlocked {value}"
+            self.locks[value].owner, end = None, f"unlocked {value}"
+            thread.held.discard(value)
         thread.x[10] = answer
         thread.pc += 4
         return end
 
     def take(self, number: int, thread: Thread, wanted: int) -> int:
-        if any(wanted <= lock for lock in thread.held):
-            raise Fault(11)
         lock = self.locks[wanted]
         if lock.owner is not None:
             raise Illegal(f"thread {number} takes lock {wanted}, which thread {lock.owner} has")
@@ -212,13 +205,6 @@ class Machine:
         lock.sections += 1
         thread.held.add(wanted)
         return lock.broken
-
-    def release(self, thread: Thread, lock: int) -> int:
-        if lock not in thread.held:
-            raise Fault(12)
-        self.locks[lock].owner = None
-        thread.held.discard(lock)
-        return 0
 
     def instruction(self, thread: Thread, word: int) -> None:
         what = rv32im.decode(word)
@@ -263,6 +249,19 @@ class Machine:
                 end = "cut"
         thread.blocks += 1
         return turns, locks, end
+
+
+def wrong_call(call: int, value: int, held: Collection[int], locks: int) -> int | None:
+    """The fault of a guest call with a value, where there are so many locks and the thread holds some, or None."""
+    if call not in limits.CALLS or (call == limits.SLEEP and value > limits.SLEPT):
+        return 9
+    if call in (limits.SLEEP, limits.EXIT):
+        return None
+    if value >= locks or (call == limits.LOCK and len(held) == limits.HELD):
+        return 10
+    if call == limits.LOCK:
+        return 11 if any(value <= lock for lock in held) else None
+    return None if value in held else 12
 
 
 def target(address: int) -> int:

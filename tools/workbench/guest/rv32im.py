@@ -109,8 +109,7 @@ def text(word: int, pc: int = 0) -> str:
 
 
 def access(word: int, x: list[int]) -> tuple[str, int, int] | None:
-    """The load or store that a word makes with these registers: 'load' or 'store', address and
-    width; None for other words."""
+    """What a word does with these registers: 'load' or 'store', address and width; None for other words."""
     what = decode(word)
     if what is None or what.name not in WIDTHS:
         return None

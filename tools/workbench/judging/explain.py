@@ -134,13 +134,12 @@ def stamps(word: str) -> tuple[int, int]:
 
 
 def words_of(parser: tool.Words) -> tool.Words:
-    parser.add_argument("report", metavar="REPORT", nargs="?", help="a report; - is standard input")
-    parser.add_argument("--thread", metavar="N", type=tool.number(0, 31), help="the blocks of this thread")
-    parser.add_argument("--lock", metavar="N", type=tool.number(0, 31),
-                        help="the blocks that hold this lock or end before its LOCK")
+    parser.report(nargs="?")
+    parser.number("--thread", (0, 31), "the blocks of this thread")
+    parser.number("--lock", (0, 31), "the blocks that hold this lock or end before its LOCK")
     parser.add_argument("--block", metavar="A[-B]", type=stamps, help="this block, or these")
-    parser.add_argument("--trace", metavar="BLOCK", type=tool.number(0, 10**9),
-                        help="this block's instructions with their registers; alone, of this block only")
+    parser.number("--trace", (0, 10**9), "this block's instructions with their registers; alone, of this block only",
+                  metavar="BLOCK")
     parser.add_argument("--contexts", action="store_true",
                         help="what a context carries where another worker goes on with it, and where the locks' bytes go")
     parser.add_argument("--words", nargs=argparse.REMAINDER, metavar="WORD",

@@ -87,7 +87,7 @@ class History:
             return True
         found = report.options_of(text, number)
         self.header.update(found or {})
-        return bool(found or report.GUEST.fullmatch(text))
+        return bool(found or re.fullmatch(report.GUEST, text))
 
 
 DEFAULTS = {"version": 2, "workers": 8, "fuel": 20000, "batch": 8}
@@ -138,16 +138,14 @@ def main(words: list[str]) -> None:
     parser.add_argument("history", metavar="HISTORY", nargs="?", default="-",
                         help="the history; standard input where it is left out")
     parser.add_argument("--on", action="store_true", help="go on to the end of every thread, all sections taken")
-    for name, (least, most) in limits.RUN.items():
-        parser.add_argument(f"--{name}", type=tool.number(least, most), metavar="N",
-                            help=f"where the history has no header ({DEFAULTS[name]})")
+    for name, some in limits.RUN.items():
+        parser.number(f"--{name}", some, f"where the history has no header ({DEFAULTS[name]})")
     asked = parser.parse_intermixed_args(words)
     guest = guestfile.load(asked.guest).guest
     history = History(tool.read_lines(asked.history))
-    given = {name: getattr(asked, name) for name in limits.RUN if getattr(asked, name) is not None}
-    options = {**DEFAULTS, **history.header, **given}
-    run, blocks = follow(lambda: legal.Run(guest, options["workers"], options["fuel"], options["batch"],
-                                           options["version"]), history.blocks)
+    options = {**DEFAULTS, **history.header, **tool.of_run(asked)}
+    numbers = [options[name] for name in (*limits.RUN, "version")]
+    run, blocks = follow(lambda: legal.Run(guest, *numbers), history.blocks)
     if asked.on:
         blocks += run.go_on()
     print(*run.lines(blocks), sep="\n")

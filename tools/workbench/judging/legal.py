@@ -254,8 +254,7 @@ that released the lock.
 
 def main(words: list[str]) -> None:
     parser = tool.words("judge", JUDGE, "guest")
-    parser.add_argument("report", metavar="REPORT", nargs="?", default="-",
-                        help="a report; standard input where it is left out")
+    parser.report("a report; standard input where it is left out", nargs="?", default="-")
     asked = parser.parse_intermixed_args(words)
     guest = guestfile.load(asked.guest).guest
     try:

@@ -149,8 +149,7 @@ def history_of(text: str) -> bytes:
 
 
 def ask_both(file: bytes, numbers: tuple[int, ...], history: bytes, kept: str) -> Given:
-    """Gives a file and a history to both forms. Answers what the model has of it; Wrong where an answer is
-    another one."""
+    """Gives a file and a history to both forms. Answers what the model has of it; Wrong where one differs."""
     given = Given(len(file), numbers, file + history)
     for form in "replay", "profile":
         ask(form, file, numbers, history, given.answer(form), kept)

@@ -34,17 +34,16 @@ def history_of(content: bytes) -> tuple[dict[str, int], bytes]:
 
 def main(words: list[str]) -> None:
     parser = tool.words("replay", __doc__, "guest")
-    parser.add_argument("report", metavar="REPORT", nargs="?", default="-",
-                        help="a report, or block lines alone; standard input where it is left out")
+    parser.report("a report, or block lines alone; standard input where it is left out", nargs="?", default="-")
     parser.add_argument("--profile", action="store_const", dest="form", const="profile", default="replay",
                         help="as ./tclocks profile N W F B")
     parser.add_argument("--model", action="store_true", help="by the model, where the program is built too")
-    for name, (least, most) in limits.RUN.items():
-        parser.add_argument(f"--{name}", type=tool.number(least, most), metavar="N", help="in the place of the report's")
+    for name, some in limits.RUN.items():
+        parser.number(f"--{name}", some, "in the place of the report's")
     asked = parser.parse_intermixed_args(words)
     file = guestfile.read(asked.guest)
     given, history = history_of(tool.read_bytes(asked.report, limits.HISTORY_BYTES + 1))
-    numbers = {**given, **{name: getattr(asked, name) for name in limits.RUN if getattr(asked, name) is not None}}
+    numbers = {**given, **tool.of_run(asked)}
     missing = [name for name in limits.RUN if name not in numbers]
     if missing:
         parser.error(f"the text has no header, and --{missing[0]} is missing")
@@ -56,6 +55,7 @@ def main(words: list[str]) -> None:
         tool.note("replay", "by the program")
         status, text = program.run((asked.form, len(file), *of_run), file + history)
     sys.stdout.write(text)
+    if status == limits.REJECTED:
+        raise tool.Trouble(status, reasons.rejection(text.strip()))
     if status:
-        why = reasons.rejection(text.strip()) if status == limits.REJECTED else REFUSED if status == tool.WRONG else f"the program ended with status {status}"
-        raise tool.Trouble(status, why)
+        raise tool.Trouble(status, REFUSED if status == tool.WRONG else f"the program ended with status {status}")

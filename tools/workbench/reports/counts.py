@@ -246,7 +246,7 @@ def print_csv(counted: Any) -> None:
 
 def main(words: list[str]) -> None:
     parser = tool.words("summary", SUMMARY + MEANINGS)
-    parser.add_argument("report", metavar="REPORT", help="a report; - is standard input")
+    parser.report()
     forms = parser.add_mutually_exclusive_group()
     forms.add_argument("--json", action="store_const", dest="form", const=print_json)
     forms.add_argument("--csv", action="store_const", dest="form", const=print_csv)

@@ -13,15 +13,14 @@ from ..limits import KINDS, PASSED_ON, SECTIONS
 
 NUMBER = r"(0|[1-9]\d{0,9})"
 HEX8 = r"([0-9a-f]{8})"
-GUEST = re.compile(f"guest threads {NUMBER} guards {NUMBER}")
+GUEST = f"guest threads {NUMBER} guards {NUMBER}"
 OPTIONS = re.compile(r"run workers (\S+) fuel (\S+) batch (\S+)")
 BLOCK = re.compile(f"block {NUMBER} thread {NUMBER} turns {NUMBER} held (-|[0-9,]+) "
                    f"kind ({'|'.join(KINDS)}) worker {NUMBER}(?: pc {HEX8})? "
                    r"end (wants \d+|unlocked \d+|slept|cut|exit|fault \d+|spent)")
 THREAD = re.compile(f"thread {NUMBER} (exit|fault \\d+|spent) fuel {NUMBER} pc {HEX8}")
-REGISTERS = re.compile(r"x(0|8|16|24)((?: [0-9a-f]{8}){8})")
 LOCK = re.compile(f"lock {NUMBER} sections {NUMBER} broken ([01]) bytes {NUMBER}")
-DATA = re.compile(f"data {HEX8} ((?:[0-9a-f]{{2}})+)")
+DATA = f"data {HEX8} ((?:[0-9a-f]{{2}})+)"
 ANSWER = re.compile(r"refused \d{1,2} \w+|rejected \d{1,20} \d \w+|usage: .*")
 
 
@@ -110,9 +109,9 @@ def held_text(held: tuple[int, ...]) -> str:
     return ",".join(map(str, held)) or "-"
 
 
-def several(count: int, what: str) -> str:
+def several(count: int, what: str, form: str = "") -> str:
     """A number of things: '1 lock', '2 locks'."""
-    return f"{count} {what}{'s' * (count != 1)}"
+    return f"{count:{form}} {what}{'s' * (count != 1)}"
 
 
 def locks_text(held: tuple[int, ...]) -> str:
@@ -179,6 +178,13 @@ class Lines:
         shown = "the text ends" if self.next is None else f"it is {self.next[:100]!r}"
         return Wrong(f"line {self.number} must be {what}: {shown}")
 
+    def match(self, form: str, what: str) -> re.Match[str]:
+        """The line in front, of this form; Wrong where it is another."""
+        found = re.fullmatch(form, self.next or "")
+        if not found:
+            raise self.wrong(what)
+        return found
+
 
 class Report:
     """A report that is read from its lines: the header at once, then `blocks`, then `ends`."""
@@ -210,13 +216,9 @@ class Report:
         return int(self.lines.take()[8:])
 
     def guest_line(self) -> tuple[int, int]:
-        found = GUEST.fullmatch(self.lines.next or "")
-        if not found:
-            raise self.lines.wrong("'guest threads N guards M'")
-        threads, guards = map(int, found.groups())
-        for name, value, least, most in (
-                ("threads", threads, 1, limits.THREADS[self.version]),
-                ("guards", guards, 0, limits.GUARDS[self.version])):
+        threads, guards = map(int, self.lines.match(GUEST, "'guest threads N guards M'").groups())
+        for name, value, least, most in (("threads", threads, 1, limits.THREADS[self.version]),
+                                         ("guards", guards, 0, limits.GUARDS[self.version])):
             if not least <= value <= most:
                 raise self.lines.wrong(f"about {least} to {most} {name}")
         self.lines.take()
@@ -241,21 +243,21 @@ class Report:
                       None if pc is None else int(pc, 16), end)
         if block.stamp != stamp:
             raise self.lines.wrong(f"the line of block {stamp}")
-        if block.thread >= self.threads or block.worker >= self.workers:
-            name, value, most = (("thread", block.thread, self.threads) if block.thread >= self.threads
-                                 else ("worker", block.worker, self.workers))
-            raise Wrong(f"block {stamp}, line {self.lines.number}: there is no {name} {value}, "
-                        f"but {name}s 0 to {most - 1}")
+        if block.thread >= self.threads:
+            raise self.wrong(stamp, f"there is no thread {block.thread}, but threads 0 to {self.threads - 1}")
+        if block.worker >= self.workers:
+            raise self.wrong(stamp, f"there is no worker {block.worker}, but workers 0 to {self.workers - 1}")
         if not 1 <= block.turns <= limits.TURNS or (kind in SECTIONS and not block.held):
-            raise Wrong(f"block {stamp}, line {self.lines.number}: it has 1 to {limits.TURNS} turns, and a "
-                        "section's first block holds its lock")
+            raise self.wrong(stamp, f"it has 1 to {limits.TURNS} turns, and a section's first block holds its lock")
         return block
+
+    def wrong(self, stamp: int, what: str) -> Wrong:
+        return Wrong(f"block {stamp}, line {self.lines.number}: {what}")
 
     def held_set(self, held: str, stamp: int) -> tuple[int, ...]:
         locks = tuple(int(word) for word in held.split(",") if word and len(word) < 3)
         if held_text(locks) != held or list(locks) != sorted(set(locks)) or locks[-1] >= self.guards:
-            raise Wrong(f"block {stamp}, line {self.lines.number}: held is {held!r}, which is no "
-                        f"ascending list of locks below {self.guards}")
+            raise self.wrong(stamp, f"held is {held!r}, which is no ascending list of locks below {self.guards}")
         return locks
 
     def ends(self) -> None:
@@ -274,8 +276,7 @@ class Report:
         thread, lock = THREAD.fullmatch(line), LOCK.fullmatch(line)
         if thread and int(thread[1]) == len(self.thread_ends) < self.threads:
             self.lines.take()
-            self.thread_ends.append(ThreadEnd(thread[2], int(thread[3]), int(thread[4], 16),
-                                              self.registers()))
+            self.thread_ends.append(ThreadEnd(thread[2], int(thread[3]), int(thread[4], 16), self.registers()))
         elif lock and int(lock[1]) == len(self.lock_ends) < self.guards:
             self.lines.take()
             self.lock_ends.append(LockEnd(int(lock[2]), int(lock[3]), *self.data(int(lock[4]))))
@@ -287,19 +288,15 @@ class Report:
         for first in range(0, 32, 8):
             if self.lines.next is None:
                 break
-            found = REGISTERS.fullmatch(self.lines.next)
-            if not found or int(found[1]) != first:
-                raise self.lines.wrong(f"the registers from x{first} on")
-            values += [int(word, 16) for word in found[2].split()]
+            found = self.lines.match(f"x{first}((?: [0-9a-f]{{8}}){{8}})", f"the registers from x{first} on")
+            values += [int(word, 16) for word in found[1].split()]
             self.lines.take()
         return tuple(values)
 
     def data(self, size: int) -> tuple[int, bytes]:
         address, content = 0, b""
         while len(content) < size and self.lines.next is not None:
-            found = DATA.fullmatch(self.lines.next)
-            if not found:
-                raise self.lines.wrong(f"bytes {len(content)} to {size - 1} of the lock")
+            found = self.lines.match(DATA, f"bytes {len(content)} to {size - 1} of the lock")
             address = address if content else int(found[1], 16)
             content += bytes.fromhex(found[2])
             self.lines.take()

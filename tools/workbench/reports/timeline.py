@@ -57,8 +57,7 @@ class Gap(NamedTuple):
 
 
 class Stay(NamedTuple):
-    """The stamps between two blocks in which a lock isn't at home, the worker that has it or None, and
-    where it is there."""
+    """The stamps between two blocks in which a lock isn't at home, and the worker that has it, or None."""
     lock: int
     first: int
     last: int

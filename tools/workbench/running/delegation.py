@@ -117,8 +117,7 @@ class Hall:
         return block
 
     def acquire(self, worker: Worker, thread: int) -> Generator[int, None, int | None]:
-        """Enters the line of the lock: first gets it from home, else the thread is shipped with
-        all its locks."""
+        """Enters the lock's line: the first gets it from home, another is shipped with all its locks."""
         lock = self.wanted(thread)
         assert lock is not None
         self.line[lock].append(thread)
@@ -176,8 +175,7 @@ class Hall:
         return chosen
 
     def release(self, worker: Worker, lock: int, block: report.Block) -> Generator[int, None, int | None]:
-        """Hands a lock to the next in its line, or brings it home. Answers the thread that the
-        worker adopts, or None."""
+        """Hands a lock to the next in its line, or brings it home. Answers whom the worker adopts."""
         line = self.line[lock]
         while len(line) > 1 and (line[1], lock) not in self.linked:
             yield 1
@@ -202,8 +200,7 @@ class Hall:
 
 def delegated(guest: model.Guest, fuel: int, workers: int, limit: int, seed: int | None = 0, version: int = 2,
               nodes: int = 0, bound: int = 0) -> tuple[legal.Run, list[report.Block]]:
-    """The history that the seed stands for, which one worker alone does not look at: the run and
-    its blocks."""
+    """The run and its blocks that the seed stands for, which one worker alone does not look at."""
     hall = Hall(guest, workers, fuel, limit, seed, version, nodes, bound)
     return hall.run, hall.history()
 

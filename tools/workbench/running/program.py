@@ -31,8 +31,7 @@ def need() -> None:
 
 
 def run(words: Iterable[Any], file: bytes, to: int | None = subprocess.PIPE) -> tuple[int, str]:
-    """What the program answers to words and a file's bytes: its status and its text, which goes to standard
-    output where `to` is None."""
+    """The program's status and text for words and a file; with `to` None the text goes to standard output."""
     done = subprocess.run([PATH, *map(str, words)], input=file, stdout=to, check=False)
     return done.returncode, (done.stdout or b"").decode("ascii", "replace")
 

@@ -9,7 +9,7 @@ from __future__ import annotations
 from argparse import Namespace
 
 from .. import tool
-from ..guest import guestfile
+from ..guest import guestfile, model
 from ..judging import reasons
 from . import delegation, program
 
@@ -19,15 +19,14 @@ ENDS = {tool.WRONG: "the file is refused; ./workbench explain GUEST says why", t
 
 
 def by_model(file: bytes, asked: Namespace, why: str | None) -> None:
-    try:
-        guest = guestfile.GuestFile(file).guest
-    except guestfile.Refused as refused:
+    refused = guestfile.refusal(file)
+    if refused:
         print(refused.line)
-        raise tool.Trouble(tool.WRONG, ENDS[tool.WRONG]) from None
+        raise tool.Trouble(tool.WRONG, ENDS[tool.WRONG])
     tool.note("run", "by the model" + ("" if asked.workers == 1 else f", in the interleaving of seed {asked.seed or 0}")
               + (f": {why}" if why else ""))
-    nodes, bound = asked.nodes
-    run, blocks = delegation.delegated(guest, asked.fuel, asked.workers, asked.batch, asked.seed or 0, nodes=nodes, bound=bound)
+    run, blocks = delegation.delegated(model.Guest(file), asked.fuel, asked.workers, asked.batch, asked.seed or 0, 2,
+                                       *asked.nodes)
     print(*run.lines(blocks), sep="\n")
 
 
@@ -40,8 +39,7 @@ interleaving that the seed stands for; the program's is another one each time.
 
 def simulate(words: list[str]) -> None:
     parser = tool.words("simulate", SIMULATE, "guest", "run")
-    parser.add_argument("--seed", type=tool.number(0, 10**9), default=0,
-                        help="the interleaving of several workers, 0 if it is not given")
+    parser.number("--seed", (0, 10**9), "the interleaving of several workers, 0 if it is not given", 0, None)
     parser.add_argument("--form", type=int, choices=(1, 2), default=2,
                         help="1: block lines without the program counter, as they were before")
     asked = parser.parse_args(words)
@@ -52,7 +50,7 @@ def simulate(words: list[str]) -> None:
 
 def main(words: list[str]) -> None:
     parser = tool.words("run", __doc__, "guest", "run")
-    parser.add_argument("--seed", type=tool.number(0, 10**9), metavar="N", help="the model, in this interleaving (0)")
+    parser.number("--seed", (0, 10**9), "the model, in this interleaving (0)")
     parser.add_argument("--nodes", metavar=("G", "K"), nargs=2, type=tool.number(0, 256), default=(0, 0),
                         help="as ./tclocks nodes G K W F B")
     asked = parser.parse_args(words)

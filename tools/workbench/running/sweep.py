@@ -57,8 +57,7 @@ class Setting(NamedTuple):
 
 
 class Result(NamedTuple):
-    """What a run did: the numbers of each lock, the workers of its sections in their order, and the run's
-    blocks, turns and seconds."""
+    """What a run did: each lock's numbers and its sections' workers, the run's blocks, turns and seconds."""
     setting: Setting
     locks: List[Dict[str, int]]
     owners: List[bytearray]
@@ -119,8 +118,7 @@ def by_model(job: Tuple[bytes, Setting]) -> Result:
 
 
 def results(file: bytes, settings: List[Setting]) -> Iterator[Result]:
-    """The results of runs: of the program one after another, so that their seconds are their own; of the model
-    with all processors."""
+    """The results of runs: of the program one by one, for their seconds; of the model with all processors."""
     if settings[0].by == "program":
         yield from (by_program(file, setting) for setting in settings)
         return
@@ -172,18 +170,17 @@ def asked_of(words: list[str]) -> argparse.Namespace:
                         help="of workers; 0 is an order without nodes (0)")
     parser.add_argument("--bound", metavar="K,K..", type=numbers(*limits.NUMBERS["bound"]), default="4",
                         help="so often a waiter may be passed over, with nodes (4)")
-    parser.add_argument("--runs", metavar="N", type=tool.number(1, 1000), default=3, help="of each (3)")
-    parser.add_argument("--fuel", metavar="N", type=tool.number(*limits.RUN["fuel"]), default=20000, help="(20000)")
-    parser.add_argument("--seed", metavar="N", type=tool.number(0, 10**9), default=1, help="of the model's first run (1)")
+    parser.number("--runs", (1, 1000), "of each (3)", 3)
+    parser.number("--fuel", limits.RUN["fuel"], "(20000)", 20000)
+    parser.number("--seed", (0, 10**9), "of the model's first run (1)", 1)
     parser.add_argument("--model", action="store_true", help="the model, even where the program is built")
     parser.add_argument("--locks", action="store_true", help="a line for each lock of each run")
     parser.add_argument("--plot", metavar="FILE", help="write the numbers' plots into it (SVG)")
     parser.add_argument("--strips", metavar="FILE", help="write a picture into it (SVG) of which worker had a lock's "
                         "first sections, in the first run of each")
-    parser.add_argument("--lock", metavar="L", type=tool.number(0, limits.GUARDS[2] - 1),
-                        help="the lock of --strips (the one with the most sections)")
-    parser.add_argument("--sections", metavar="N", type=tool.number(1, 100_000), default=1000,
-                        help="so many sections of it (1000)")
+    most = limits.GUARDS[2] - 1
+    parser.number("--lock", (0, most), "the lock of --strips (the one with the most sections)", metavar="L")
+    parser.number("--sections", (1, 100_000), "so many sections of it (1000)", 1000)
     asked = parser.parse_args(words)
     if min(asked.nodes) > max(asked.workers):
         parser.error("there are more --nodes than --workers")
