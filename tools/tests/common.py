@@ -241,6 +241,12 @@ class Folder(unittest.TestCase):
     def build(self, *words: str, **more: Any) -> tuple[int, bytes, str]:
         return self.command(*words, script="tclocks-build", **more)
 
+    def answers(self, status: int, out: bytes, lines: int, *words: str, **more: Any) -> str:
+        """The command ends with this status and output. Answers what it says, which are so many lines."""
+        ended, written, said = self.command(*words, **more)
+        self.assertEqual((ended, written, said.count("\n")), (status, out, lines), (words, said))
+        return said
+
     def count(self) -> list[str]:
         """What the toolchain was asked for by the command."""
         path = self.root / "count"

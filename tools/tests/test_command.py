@@ -41,12 +41,14 @@ class Command(Folder):
         self.build()
 
     def test_what_is_built_is_run_without_a_word(self) -> None:
+        """Where a source of another crate is newer too."""
         self.assertEqual(self.command("cat", given=b"bytes\0"), (0, b"bytes\0", ""))
+        self.write("crates/tc_tests/src/lib.rt", "// newer\n")
+        self.assertEqual(self.command("cat", given=b"x"), (0, b"x", ""))
 
     def test_statuses_are_passed_on_and_three_have_a_line(self) -> None:
         for number in range(8):
-            status, out, said = self.command("status", str(number))
-            self.assertEqual((status, out, said.count("\n")), (number, b"", number in (2, 4, 5)))
+            self.answers(number, b"", number in (2, 4, 5), "status", str(number))
 
     def test_a_signal_ends_the_program_too(self) -> None:
         for how in (signal.SIGINT, signal.SIGTERM, signal.SIGHUP):
@@ -65,38 +67,29 @@ class Command(Folder):
 
     def test_a_newer_source_is_not_passed_over(self) -> None:
         self.write("crates/tc_io/src/lib.rt", "// newer\n")
-        status, out, said = self.command("run", "1", "1", "0", given=b"x")
-        self.assertEqual((status, out), (0, b"sources: run 1 1 0\nx"))
+        said = self.answers(0, b"sources: run 1 1 0\nx", 1, "run", "1", "1", "0", given=b"x")
         self.assertRegex(said, r"^tclocks: the program is out of date: crates/tc_io/src/lib.rt is newer .*NOT PROVED.*\n$")
 
     def test_an_old_program_runs_where_it_is_asked_for(self) -> None:
         self.write("crates/tc_io/src/lib.rt", "// newer\n")
-        status, out, said = self.command("cat", given=b"x", TCLOCKS_PROGRAM="old")
-        self.assertEqual((status, out), (0, b"x"))
+        said = self.answers(0, b"x", 1, "cat", given=b"x", TCLOCKS_PROGRAM="old")
         self.assertRegex(said, r"^tclocks: the program is out of date.*\n$")
-        status, out, said = self.command("cat", given=b"x", TCLOCKS_PROGRAM="built")
-        self.assertEqual((status, out, said.count("\n")), (127, b"", 1))
-
-    def test_a_source_of_another_crate_changes_nothing(self) -> None:
-        self.write("crates/tc_tests/src/lib.rt", "// newer\n")
-        self.assertEqual(self.command("cat", given=b"x"), (0, b"x", ""))
+        self.answers(127, b"", 1, "cat", given=b"x", TCLOCKS_PROGRAM="built")
 
     def test_a_tool_takes_no_program_that_is_out_of_date(self) -> None:
         asked = [sys.executable, "-B", "-c", "from tools.workbench import tool; from tools.workbench.running import program; "
                  "tool.run('check', lambda _: program.need(), [])"]
-        how = {"cwd": self.root, "env": self.environment, "capture_output": True, "check": False}
-        self.assertEqual(subprocess.run(asked, **how).returncode, 0)  # type: ignore[call-overload]
+        self.assertEqual(process(*asked, cwd=self.root, env=self.environment).returncode, 0)
         self.write("crates/low/src/lib.rt", "// newer\n")
-        done = subprocess.run(asked, **how)  # type: ignore[call-overload]
+        done = process(*asked, cwd=self.root, env=self.environment)
         self.assertEqual((done.returncode, done.stderr.count(b"\n")), (2, 1))
         self.assertIn(b"workbench check: the program is out of date: crates/low/src/lib.rt is newer", done.stderr)
-        how["env"] = {**self.environment, "TCLOCKS_PROGRAM": "old"}
-        self.assertEqual(subprocess.run(asked, **how).returncode, 0)  # type: ignore[call-overload]
+        self.environment["TCLOCKS_PROGRAM"] = "old"
+        self.assertEqual(process(*asked, cwd=self.root, env=self.environment).returncode, 0)
         self.assertNotIn("try", self.count())
 
     def test_the_sources_run_where_they_are_asked_for(self) -> None:
-        status, out, said = self.command("demo", "1", "1", TCLOCKS_PROGRAM="sources")
-        self.assertEqual((status, out, said.count("\n")), (0, b"sources: demo 1 1\n", 1))
+        self.answers(0, b"sources: demo 1 1\n", 1, "demo", "1", "1", TCLOCKS_PROGRAM="sources")
         self.assertEqual(self.command("cat", TCLOCKS_PROGRAM="new")[0], 126)
 
 
@@ -104,11 +97,9 @@ class Unproved(Folder):
     """Runs of the sources, where there is no program."""
 
     def test_words_input_output_and_status_are_the_programs_and_one_line_is_said(self) -> None:
-        status, out, said = self.command("run", "1", "3", "0", given=b"bytes\0")
-        self.assertEqual((status, out), (0, b"sources: run 1 3 0\nbytes\0"))
+        said = self.answers(0, b"sources: run 1 3 0\nbytes\0", 1, "run", "1", "3", "0", given=b"bytes\0")
         self.assertRegex(said, r"^tclocks: the program is not built; this run is NOT PROVED .*tclocks-build.*minutes.*\n$")
-        status, out, said = self.command("run", "3", "3", "0", given=b"x")
-        self.assertEqual((status, out, said.count("\n")), (3, b"refused\n", 1))
+        self.answers(3, b"refused\n", 1, "run", "3", "3", "0", given=b"x")
         self.assertEqual(self.count(), ["try", "try"])
 
     def test_only_a_run_reads(self) -> None:
@@ -121,8 +112,8 @@ class Unproved(Folder):
     def test_a_history_is_read_behind_the_file(self) -> None:
         given = bytes(1048577) + b"block 0"
         for form in "replay", "profile":
-            status, out, _ = self.command(form, "1048576", "1", "1", "0", given=given)
-            self.assertEqual((status, out), (0, f"sources: {form} 1048576 1 1 0\n".encode() + given))
+            out = f"sources: {form} 1048576 1 1 0\n".encode() + given
+            self.answers(0, out, 1, form, "1048576", "1", "1", "0", given=given)
         self.assertEqual(self.command("run", "1", "1", "0", given=given)[1], b"sources: run 1 1 0\n" + given[:1048577])
 
     def test_an_input_that_pauses_is_read_to_its_end(self) -> None:
@@ -150,11 +141,9 @@ class Unproved(Folder):
             self.assertEqual(self.command(*words.split())[1][:9], b"sources: ", words)
 
     def test_what_a_run_without_proof_can_not_do_is_said(self) -> None:
-        for words, text in (("run 7 1 0", "more than 1 MiB"), ("run 7 2 0", "longer than the minute"),
-                            ("run 7 3 0", "could not run the sources")):
-            status, out, said = self.command(*words.split(), given=b"x")
-            self.assertEqual((status, out), (126, b""))
-            self.assertIn(text, said)
+        for words, text, lines in (("run 7 1 0", "more than 1 MiB", 2), ("run 7 2 0", "longer than the minute", 2),
+                                   ("run 7 3 0", "could not run the sources", 3)):
+            self.assertIn(text, self.answers(126, b"", lines, *words.split(), given=b"x"))
         self.assertEqual(self.left_over(), [])
 
     def test_a_signal_ends_it_and_leaves_nothing(self) -> None:
@@ -172,17 +161,14 @@ class Unproved(Folder):
     def test_without_the_toolchain(self) -> None:
         (self.root / "bin/rt").unlink()
         self.environment["PATH"] = f"{self.root / 'bin'}:/usr/bin:/bin"
-        status, out, said = self.command("run", "1", "1", "0")
-        self.assertEqual((status, out, said.count("\n")), (127, b"", 1))
+        self.answers(127, b"", 1, "run", "1", "1", "0")
         self.assertEqual(self.command("--help"), (1, USAGE, ""))
         self.assertEqual(self.command("run", "1", "1", "0", TCLOCKS_PROGRAM="built")[0], 127)
 
     def test_without_bash(self) -> None:
         if not pathlib.Path("/bin/dash").exists():
             self.skipTest("there is no dash")
-        status, _, said = self.command("cat", shell=("/bin/dash",))
-        self.assertEqual((status, said.count("\n")), (126, 1))
-        self.assertIn("bash", said)
+        self.assertIn("bash", self.answers(126, b"", 1, "cat", shell=("/bin/dash",)))
 
 
 class Rules(unittest.TestCase):
@@ -296,8 +282,7 @@ class Building(Folder):
 
     def test_a_place_that_can_not_be_written_is_said_in_one_line(self) -> None:
         self.write("out", "no folder")
-        status, out, said = self.build()
-        self.assertEqual((status, out, said.count("\n")), (126, b"", 1))
+        self.answers(126, b"", 1, script="tclocks-build")
 
     def test_a_failed_proof_names_its_log(self) -> None:
         status, _, said = self.build(FAILING="middle")
@@ -316,13 +301,11 @@ class Building(Folder):
 
     def test_without_the_toolchain(self) -> None:
         (self.root / "bin/rt").unlink()
-        status, _, said = self.build(PATH="/usr/bin:/bin")
-        self.assertEqual((status, said.count("\n")), (127, 1))
+        self.answers(127, b"", 1, script="tclocks-build", PATH="/usr/bin:/bin")
 
     def test_words(self) -> None:
         for words in (("--jobs",), ("--jobs", "0"), ("--jobs", "x"), ("now",), ("--version", "now")):
-            status, out, said = self.build(*words)
-            self.assertEqual((status, out, said.count("\n")), (1, b"", 1))
+            self.answers(1, b"", 1, *words, script="tclocks-build")
         status, out, _ = self.build("--help")
         self.assertEqual((status, b"./tclocks-build" in out), (0, True))
         self.assertEqual(self.count(), [])

@@ -7,6 +7,7 @@ import copy
 import csv
 import io
 import random
+import re
 import shutil
 import signal
 import subprocess
@@ -281,24 +282,20 @@ class Use(Case):
         self.assertEqual(trouble.exception.status, 3)
 
     def test_reach(self) -> None:
-        done = run("explore", elf("stale"), "--reach", "lock 0 word 0 < 73")
-        self.assertEqual((done.returncode, done.stderr), (0, b""))
-        self.says("# lock 0 word 0 < 73: reachable, by this history of 28 blocks\n", done)
-        finished = run("finish", elf("stale"), given=done.stdout)
-        self.says("data 00100000 2100000002000000", finished)
-        self.says("a legal run", run("judge", elf("stale"), given=finished.stdout))
-        taken = [line.split()[3] for line in finished.stdout.decode().splitlines() if " kind taken " in line]
-        self.assertIn("100001", "".join(taken))
-        done = run("explore", elf("stale"), "--reach", "lock 0 word 0 == 72")
-        self.assertEqual((done.returncode, done.stderr), (0, b""))
-        self.says("# lock 0 word 0 == 72: in no interleaving (", done)
+        said = self.well("explore", elf("stale"), "--reach", "lock 0 word 0 < 73")
+        self.assertIn("# lock 0 word 0 < 73: reachable, by this history of 28 blocks\n", said)
+        finished = self.well("finish", elf("stale"), given=said)
+        self.assertIn("data 00100000 2100000002000000", finished)
+        self.says("a legal run", run("judge", elf("stale"), given=finished))
+        self.assertIn("100001", "".join(re.findall(r"thread (\d).* kind taken ", finished)))
+        said = self.well("explore", elf("stale"), "--reach", "lock 0 word 0 == 72")
+        self.assertIn("# lock 0 word 0 == 72: in no interleaving (", said)
 
     def test_never(self) -> None:
         done = run("explore", elf("stale"), "--never", "faults or spent", "--never", "lock 0 word 0 != 73")
         self.one_line(done, 3, "# faults or spent: in no interleaving (")
         self.says("# lock 0 word 0 != 73: broken, by this history of 28 blocks\ntclocks 2\n", done)
-        done = run("explore", elf("first"), "--never", "lock 0 word 0 != 36 or lock 0 sections != 6 or broken")
-        self.assertEqual((done.returncode, done.stderr), (0, b""))
+        self.well("explore", elf("first"), "--never", "lock 0 word 0 != 36 or lock 0 sections != 6 or broken")
 
     def test_not_all_seen(self) -> None:
         done = run("explore", elf("stale"), "--never", "faults", "--states", "50", "--processes", "1")
@@ -390,11 +387,9 @@ class Use(Case):
         """Thread 0 faults where thread 1 was there before it."""
         one = made.code(f"{BEGIN} LOCK 0; lw 7 5 0; beq 7 0 8; ebreak; UNLOCK 0; EXIT")
         other = made.code(f"{BEGIN} LOCK 0; sw 17 5 0; UNLOCK 0; EXIT")
-        done = run("explore", saved("fault.elf", built(one + other, (0, len(one)), 1)), "--all")
-        text = done.stdout.decode()
-        self.says("every interleaving: 2 outcomes, ", done)
+        text = run("explore", saved("fault.elf", built(one + other, (0, len(one)), 1)), "--all").stdout.decode()
+        self.assertIn("every interleaving: 2 outcomes, ", text)
         self.assertLess(text.index("thread 0 ends: fault 8"), text.index("thread 0 ends: exit"))
-
 
     def test_wrong_files_and_long_rules(self) -> None:
         for rule in "(" * 5000, "9" * 5000:
@@ -471,14 +466,13 @@ class Grade(Case):
 
     def test_answers_of_the_course(self) -> None:
         place = folder("course", {"asked.elf": COURSE / "pair.elf", "answered.elf": ANSWERS / "pair.elf"})
-        rows = list(csv.DictReader(run("grade", place, "--never", TORN, "--csv").stdout.decode().splitlines()))
-        self.assertEqual([tuple(row.values()) for row in rows],
-                         [("answered.elf", "accepted", "never", TORN, "holds", "1"),
-                          ("asked.elf", "accepted", "never", TORN, "broken", "0")])
+        said = self.well("grade", place, "--never", TORN, "--csv")
+        self.assertEqual(said.splitlines()[1:], [f"answered.elf,accepted,never,{TORN},holds,1",
+                                                 f"asked.elf,accepted,never,{TORN},broken,0"])
         place = folder("queues", {"asked.elf": COURSE / "queue.elf", "answered.elf": ANSWERS / "queue.elf"})
         for rule, answers in (("lock 1 word 1 > 4", "holds holds"), ("lock 1 word 1 > 3", "holds broken"),
                               ("lock 1 word 1 > 0", "holds broken")):
-            rows = csv.DictReader(run("grade", place, "--never", rule, "--csv").stdout.decode().splitlines())  # type: ignore[assignment]
+            rows = csv.DictReader(self.well("grade", place, "--never", rule, "--csv").splitlines())
             self.assertEqual([row["answer"] for row in rows], answers.split(), rule)
 
     def test_a_search_that_stops(self) -> None:

@@ -37,8 +37,8 @@ class Explanations(Case):
     def test_file_cut_short_says_so(self) -> None:
         path = saved("short.elf", (GUESTS / "first.elf").read_bytes()[:200])
         self.one_line(run("judge", path), 3)
-        done = run("explain", path, "-", given="refused 9 BadLoad\n")
-        self.says("the file has 200 bytes: 96 are missing, so it may be cut short", done)
+        said = self.well("explain", path, "-", given="refused 9 BadLoad\n")
+        self.assertIn("the file has 200 bytes: 96 are missing, so it may be cut short", said)
 
     def test_faults(self) -> None:
         known, text = FACTS["faults"], run("simulate", elf("faults"), "1", "1000", "0").stdout
@@ -53,23 +53,20 @@ class Explanations(Case):
             self.assertIn(part, said)
 
     def test_words(self) -> None:
-        for words, part in (("run 0 10 1", "workers"), ("run 2 010 1", "leading zero"), ("run 1 65537 0", "65537"),
-                            ("run 1 1 257", "257"), ("run", "workers, fuel, batch"), ("", "no words"), ("gen 0", "rounds is 0"),
-                            ("gen 2001", "1 to 2000"), ("demo 5", "rounds, workers"), ("demo 5 9", "1 to 8"),
-                            ("nodes 3 4 2 2000 8", "3 nodes and 2 workers"), ("nodes 1 257 1 1 0", "bound is 257"), ("nodes 1 1 0", "nodes, bound, workers"),
-                            ("replay 92 1 100", "size, workers, fuel, batch"), ("replay 0 1 100 0", "size is 0"),
-                            ("profile 1048577 1 1 0", "1 to 1048576"), ("stop", "stop"), ("run 1 -1 0", "-1")):
-            done = run("explain", elf("first"), "--words", *words.split())
-            self.assertEqual(done.returncode, 0)
-            self.says(part, done)
+        for words, part in (
+                ("run 0 10 1", "workers"), ("run 2 010 1", "leading zero"), ("run 1 65537 0", "65537"), ("run 1 1 257", "257"),
+                ("run", "workers, fuel, batch"), ("", "no words"), ("gen 0", "rounds is 0"), ("gen 2001", "1 to 2000"),
+                ("demo 5", "rounds, workers"), ("demo 5 9", "1 to 8"), ("nodes 3 4 2 2000 8", "3 nodes and 2 workers"),
+                ("nodes 1 257 1 1 0", "bound is 257"), ("nodes 1 1 0", "nodes, bound, workers"), ("stop", "stop"),
+                ("replay 92 1 100", "size, workers, fuel, batch"), ("replay 0 1 100 0", "size is 0"), ("run 1 -1 0", "-1"),
+                ("profile 1048577 1 1 0", "1 to 1048576")):
+            self.assertIn(part, self.well("explain", elf("first"), "--words", *words.split()))
 
     def test_a_rejected_history(self) -> None:
-        for name, part in (("Text", "no block line"), ("Thread", "no such thread"), ("Owner", "another one has"), ("Block", "its turns"),
-                           ("Kind", "batch limit"), ("Worker", "no such worker"), ("Incomplete", "has not ended")):
-            done = run("explain", elf("first"), "-", given=f"rejected 12 {limits.REASONS.index(name) + 1} {name}\n")
-            self.assertEqual((done.returncode, done.stderr), (0, b""))
-            self.says("line 12 of the history: ", done)
-            self.says(part, done)
+        for number, part in enumerate(("no block line", "no such thread", "another one has", "its turns", "batch limit",
+                                       "no such worker", "has not ended"), 1):
+            line = f"rejected 12 {number} {limits.REASONS[number - 1]}\n"
+            self.assertRegex(self.well("explain", elf("first"), "-", given=line), f"line 12 of the history: .*{part}")
 
 
 class Tables(Case):
@@ -92,7 +89,7 @@ class Tables(Case):
         code = (*call(1, 0), *call(1, 1), *call(2, 0), *call(2, 1), *EXIT)
         text = run("simulate", saved("paper.elf", built(code, (0,), 2)), "1", "100", "4").stdout
         lock = "lock {} sections 1 taken 1 adopted 0 granted 0 longest 0 changes 0 home 0\n"
-        self.assertEqual(run("summary", "-", "--profile", given=text).stdout.decode(), "tclocks profile 1\n" + lock.format(0)
+        self.assertEqual(self.well("summary", "-", "--profile", given=text), "tclocks profile 1\n" + lock.format(0)
                          + lock.format(1) + "thread 0 blocks 5 turns 14 moves 0\nend\n")
         counts = json.loads(run("summary", "-", "--json", given=text).stdout)
         for lock in counts["by_lock"]:
@@ -139,18 +136,14 @@ class Tables(Case):
     def test_each_tool_on_each_guest(self) -> None:
         for name in NAMES:
             path = saved(f"{name}.txt", run("simulate", elf(name), "3", "600", "2", "--seed", "5").stdout)
-            for tool, words in (("summary", [path]), ("draw", [path]), ("draw", [path, "--text"]),
-                                ("draw", [path, "--trace"]),
-                                ("explain", [elf(name), path]), ("explain", [elf(name)]), ("judge", [elf(name), path]),
-                                ("finish", [elf(name), path]),
-                                ("explore", [elf(name), "--runs", "2", "--model", "--fuel", "600"])):
-                done = run(tool, *words)
-                self.assertEqual((done.returncode, done.stderr), (0, b""), (tool, words))
+            for tool, *words in (("summary", path), ("draw", path), ("draw --text", path), ("draw --trace", path),
+                                 ("explain", elf(name), path), ("explain", elf(name)), ("judge", elf(name), path),
+                                 ("finish", elf(name), path), ("explore --runs 2 --model --fuel 600", elf(name))):
+                self.well(tool, *words)
 
     def test_explore_keeps_a_history_of_each_outcome(self) -> None:
         folder = TEMPORARY / "outcomes"
-        done = run("explore", elf("buffer"), "--runs", "6", "--model", "--keep", str(folder))
-        self.assertEqual(done.returncode, 0)
+        self.one_line(run("explore", elf("buffer"), "--runs", "6", "--model", "--keep", str(folder)), 0)
         for path in folder.iterdir():
             self.says("a legal run", run("judge", elf("buffer"), str(path)))
 
@@ -161,14 +154,12 @@ HEADING = "x6,x7,mul,mulh,mulhsu,mulhu,div,divu,rem,remu"
 
 class Values(unittest.TestCase):
     def test_products_and_quotients(self) -> None:
-        lines = VECTORS.read_text().splitlines()
-        pairs = lines[lines.index(HEADING) + 1 :]
+        pairs = VECTORS.read_text().partition(f"{HEADING}\n")[2].splitlines()
         self.assertEqual(len(pairs), 220)
         for line in pairs:
             a, b, *values = (int(value, 16) for value in line.split(","))
             for name, value in zip(HEADING.split(",")[2:], values):
-                said = model.OPERATIONS[name](a, b)
-                self.assertEqual(said % 2**32, value, f"{name} of {a:08x} and {b:08x}")
+                self.assertEqual(model.OPERATIONS[name](a, b) % 2**32, value, f"{name} of {a:08x} and {b:08x}")
 
 
 def explained(*words: str, given: bytes = FINISHED) -> CompletedProcess[bytes]:
@@ -233,9 +224,8 @@ class Explained(Case):
 
     def test_nested_locks_are_in_the_package(self) -> None:
         text = history("philosophers", 4, 8, 1)[1]
-        said = run("explain", elf("philosophers"), "-", "--contexts", given=text).stdout.decode()
-        self.assertRegex(said, r"context of thread \d .*; in its package lock \d, 8 bytes")
-        self.assertRegex(said, r"\d+ bytes of stack in use")
+        said = self.well("explain", elf("philosophers"), "-", "--contexts", given=text)
+        self.assertRegex(said, r"context of thread \d .*, \d+ bytes of stack in use.*; in its package lock \d, 8 bytes")
 
 
 COMPILER = shutil.which("riscv64-unknown-elf-gcc")

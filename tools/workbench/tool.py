@@ -68,12 +68,6 @@ def of_run(asked: argparse.Namespace) -> dict[str, int]:
     return {name: getattr(asked, name) for name in limits.RUN if getattr(asked, name) is not None}
 
 
-def make_folder(path: Path | str) -> None:
-    """A folder that is there from now on."""
-    with writing(path):
-        os.makedirs(path, exist_ok=True)
-
-
 def number(least: int, most: int) -> Callable[[str], int]:
     """A type of a word: a number in these limits."""
     def read(word: str) -> int:

@@ -99,7 +99,8 @@ def main(words: list[str]) -> int:
     asked = process.parsed(parser, words, guests.GUESTS)
     names = asked.guests or list(guests.GUESTS)
     if asked.folder is not None:
-        tool.make_folder(asked.folder)
+        with tool.writing(asked.folder):
+            asked.folder.mkdir(parents=True, exist_ok=True)
         for name in names:
             tool.write_file(asked.folder / f"{name}.elf", guests.GUESTS[name]())
         return tool.DONE

@@ -52,13 +52,6 @@ def taken(asked: Namespace, runs: Any, what: str) -> float:
     return float(asked.told(getattr(took, what) for took, _ in runs))
 
 
-def shared(asked: Namespace, clock: Path | None, blocks: int) -> float:
-    """The processor seconds that the most threads take more than one for so many additions to one word."""
-    several, one = (taken(asked, [ran((threads, blocks), path=clock) for _ in range(asked.runs)], "busy")
-                    for threads in (asked.workers[-1], 1))
-    return several - one
-
-
 @contextlib.contextmanager
 def company(asked: Namespace, loop: Path | None, threads: int) -> Iterator[Any]:
     """Keeps as many processors busy as these threads are fewer than the most workers, where that is asked for."""
@@ -131,8 +124,10 @@ def measure(name: str, asked: Namespace, clock: Path | None, loop: Path | None, 
     seconds, busy = ([taken(asked, runs[workers], what) for workers in asked.workers] for what in ("seconds", "busy"))
     ratios = seconds[-1] / seconds[0], busy[-1] / busy[0]
     _, blocks = runs[asked.workers[-1]][0]
-    to.row([name, *seconds, *busy, *ratios, shared(asked, clock, blocks) if clock else None,
-            of_loops(asked, loops) if loop else None, shared_loop(asked, seconds[0], loops, loop) if loop else None,
+    # What the most threads take more than one for so many additions to one word.
+    shared, one = (taken(asked, [ran((threads, blocks), path=clock) for _ in range(asked.runs)], "busy")
+                   for threads in (asked.workers[-1], 1)) if clock else (0, 0)
+    to.row([name, *seconds, *busy, *ratios, shared - one if clock else None, of_loops(asked, loops) if loop else None, shared_loop(asked, seconds[0], loops, loop) if loop else None,
             f"{len(runs[asked.workers[-1]])} of {made}"],
            {workers: [took for took, _ in found] for workers, found in runs.items()})
     return ratios
@@ -152,11 +147,6 @@ def main(words: list[str]) -> None:
                         help="tell the median of the runs in the place of the least")
     asked = process.parsed(parser, words, guests.GUESTS)
     asked.workers = sorted({*asked.workers})
-    measure_all(asked)
-
-
-def measure_all(asked: Namespace) -> None:
-    """Prints the table, and what it tells in a line."""
     wants_loop = [word for word, is_asked in (("-q", asked.quiet is not None), ("-e", asked.even)) if is_asked]
     if wants_loop and not shutil.which("cc"):
         raise tool.Trouble(tool.INPUT, f"{wants_loop[0]} needs a C compiler, and cc is not on the PATH")

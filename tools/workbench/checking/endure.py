@@ -163,13 +163,15 @@ def closed_streams(place: Place, _: int) -> str:
     return "status 2 without standard input, 4 without standard output"
 
 
+def limit(megabytes: int) -> Callable[[], None]:
+    return lambda: resource.setrlimit(resource.RLIMIT_AS, (megabytes << 20, megabytes << 20))
+
+
 def little_memory(place: Place, _: int) -> str:
     """How much is enough differs from run to run."""
     refused = []
     for megabytes in (16, 32, 64, 128, 256, 512):
-        most = megabytes << 20
-        limit = lambda: resource.setrlimit(resource.RLIMIT_AS, (most, most))
-        status, written = place.run(sleeping(8), SLEEPING, preexec_fn=limit)
+        status, written = place.run(sleeping(8), SLEEPING, preexec_fn=limit(megabytes))
         is_whole = status == 0 and written.endswith(b"\nend\n")
         need(is_whole or (status, written) == (5, b""), f"status {status} with {len(written)} bytes in {megabytes} MB")
         refused += [megabytes] * (status == 5)
@@ -203,9 +205,7 @@ def histories(place: Place, _: int) -> str:
         for given, status in ((history, 4), (history[:-1], limits.REJECTED)):
             done = place.run(file + given, words, stdout=full)[0]
             need(done == status, f"a full disk: status {done}, not {status}")
-    most = 16 << 20
-    limit = lambda: resource.setrlimit(resource.RLIMIT_AS, (most, most))
-    ended = place.run(file + history, words, preexec_fn=limit)
+    ended = place.run(file + history, words, preexec_fn=limit(16))
     need(ended == (5, b""), f"status {ended[0]} with {len(ended[1])} bytes in 16 MB")
     place.guest.write_bytes(file)
     os.truncate(place.guest, len(file) + limits.HISTORY_BYTES + 1)

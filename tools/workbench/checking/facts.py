@@ -6,9 +6,12 @@ is run by model.py in interleavings drawn at random, and the facts must hold in 
 """
 from __future__ import annotations
 
+import contextlib
+import functools
 import json
+import operator
 import random
-from typing import Any, Callable, Sequence
+from typing import Any, Sequence
 
 from .. import places, tool
 from ..guest import model
@@ -23,10 +26,9 @@ def words(*values: int) -> str:
 
 def facts(ends: Sequence[str], x10: Sequence[int | None], guards: Sequence[str] = (), sections: Sequence[int] = (),
           broken: list[int] | None = None, pc: Sequence[int | None] | None = None) -> dict[str, list[Any]]:
-    broken = broken or [0] * len(guards)
     return {"ends": list(ends), "x10": [value if value is None else value % 2**32 for value in x10],
             "pc": list(pc or ()) or [None] * len(ends), "guards": list(guards), "sections": list(sections),
-            "broken": broken}
+            "broken": broken or [0] * len(guards)}
 
 
 def exits(codes: list[int], guards: list[str], sections: list[int]) -> dict[str, list[Any]]:
@@ -70,9 +72,7 @@ def philosophers() -> dict[str, list[Any]]:
 def ring() -> dict[str, list[Any]]:
     items = [argument ^ i for argument in (0x11110000, 0x22220000, 0x33330000, 0x44440000,
                                            0x55550000, 0xFFFFFF00) for i in range(25)]
-    both = 0
-    for item in items:
-        both ^= item
+    both = functools.reduce(operator.xor, items)
     return exits([25] * 6, [words(150, 150, sum(items), sum(items), both, 0, *[0] * 6)], [300])
 
 
@@ -154,12 +154,10 @@ def run(guest: model.Guest, chance: random.Random) -> model.Machine:
     machine = model.Machine(guest, FUEL)
     while any(thread.end is None for thread in machine.threads):
         chosen = chance.choice(list(machine.able()))
-        for _ in range(chance.choice((1, 3, 20, 300))):
-            try:
+        with contextlib.suppress(model.Illegal):
+            for _ in range(chance.choice((1, 3, 20, 300))):
                 if machine.turn(chosen) or machine.next_lock(machine.threads[chosen]) is not None:
                     break
-            except model.Illegal:
-                break
     return machine
 
 
@@ -171,10 +169,8 @@ def turns(machine: model.Machine) -> list[int | None]:
 def main(given: list[str]) -> None:
     tool.words("facts", __doc__).parse_args(given)
     table = {"exit": facts(["exit"], [0], pc=[0x10058])}
-    every: tuple[Callable[[], dict[str, list[Any]]], ...] = (
-        first, counter, bank, philosophers, ring, buffer, sleepers, matrix, sensors, stale, broken, faults)
-    for known_of in every:
-        table[getattr(known_of, "__name__")] = known_of()
+    for known_of in first, counter, bank, philosophers, ring, buffer, sleepers, matrix, sensors, stale, broken, faults:
+        table[known_of.__name__] = known_of()
     for name, known in table.items():
         guest = model.Guest((places.GUESTS / f"{name}.elf").read_bytes())
         chance = random.Random(name)

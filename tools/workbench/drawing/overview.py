@@ -4,7 +4,7 @@ from __future__ import annotations
 
 from collections import Counter
 from itertools import accumulate, count
-from typing import Any, Iterable, Iterator
+from typing import Any, Iterable
 
 from ..guest import names
 from ..limits import SECTIONS
@@ -84,14 +84,6 @@ class Columns:
         return f"blocks {start} to {start + self.size(column) - 1}"
 
 
-def bars(x: float, wide: float, bottom: int, high: int, shares: list[float], colours: Any) -> Iterator[str]:
-    """Bars on one another: each share is a part of the height."""
-    for (top, share), colour in zip(zip(accumulate(shares), shares), colours):
-        if share:
-            yield (f'<rect x="{x:.1f}" y="{bottom - high * top:.1f}" width="{wide:.1f}" height="{high * share:.1f}" '
-                   f'fill="{colour}"/>')
-
-
 class Overview:
     """The panels of a picture, from above."""
 
@@ -126,29 +118,34 @@ class Overview:
                                        f"{columns.first + column * columns.each}", "axis"))
         self.picture.add("", 18)
 
-    def panel(self, rows: list[list[float]], colours: Any,
-              names: Any, highest: float, unit: str = "") -> None:
+    def bars(self, column: int, said: str, bottom: int, high: int, shares: list[float], colours: Any) -> None:
+        """A column's bars on one another: each share is a part of the height."""
+        parts = [f'<rect x="{self.x(column):.1f}" y="{bottom - high * top:.1f}" width="{self.wide:.1f}" '
+                 f'height="{high * share:.1f}" fill="{colour}"/>'
+                 for top, share, colour in zip(accumulate(shares), shares, colours) if share]
+        self.picture.add(svg.titled(f"{self.columns.stamps(column)}: {said}", parts))
+
+    def panel(self, rows: list[list[float]], colours: Any, names: Any, highest: float, unit: str = "") -> None:
         """Bars of all columns; rows has a column's shares of the highest."""
         top = self.picture.height + 6
         self.scale(top, top + PANEL, highest, unit)
         for column, values in enumerate(rows):
             said = ", ".join(f"{name} {value:.3g}{unit}" for name, value in zip(names, values) if value)
-            self.picture.add(svg.titled(f"{self.columns.stamps(column)}: {said or 'nothing'}", bars(
-                self.x(column), self.wide, top + PANEL, PANEL, [value / highest for value in values], colours)))
+            self.bars(column, said or "nothing", top + PANEL, PANEL, [value / highest for value in values], colours)
         self.picture.add("", PANEL + 10)
         self.stamps()
 
-    def lane(self, head: str, shares: list[list[int]], colours: Any, names: Any, highest: float = 1) -> None:
+    def lane(self, head: str, rows: list[list[int]], colours: Any, names: Any, highest: float = 1) -> None:
         """A lane of shares of all stamps; what is left is nothing of these."""
         top = self.picture.height
         self.picture.add(svg.label(10, top + 16, head))
         self.picture.add(f'<rect x="{self.left:g}" y="{top:g}" width="{WIDE}" height="{LANE}" fill="#f4f4f4"/>')
-        for column, values in enumerate(shares):
+        for column, values in enumerate(rows):
             size = self.columns.size(column)
             said = ", ".join(f"{name} {100 * value / size:.0f}%" for name, value in zip(names, values) if value)
             if said:
-                self.picture.add(svg.titled(f"{self.columns.stamps(column)}: {head}: {said}", bars(
-                    self.x(column), self.wide, top + LANE, LANE, [value / size / highest for value in values], colours)))
+                shares = [value / size / highest for value in values]
+                self.bars(column, f"{head}: {said}", top + LANE, LANE, shares, colours)
         self.picture.add("", LANE_STEP)
 
     def draw(self) -> svg.Picture:

@@ -21,12 +21,6 @@ x behind a thread's last block; a worker's lane has the number of the thread (ab
 a lock's lane has the number of the worker that has it; - is a package that no worker has"""
 
 
-def letter(mark: timeline.Mark) -> str:
-    block = mark.block
-    plain = "o" if block.kind == "on" and block.held else LETTERS[block.kind]
-    return plain.upper() if mark.away else plain
-
-
 def digit(number: int) -> str:
     return "0123456789ABCDEFGHIJKLMNOPQRSTUV"[number]
 
@@ -65,7 +59,8 @@ class Canvas:
     def put_block(self, mark: timeline.Mark) -> None:
         block = mark.block
         colour = by_lock(block.held[-1] if block.held else None)
-        self.put(block.thread, block.stamp, letter(mark), colour)
+        plain = "o" if block.kind == "on" and block.held else LETTERS[block.kind]
+        self.put(block.thread, block.stamp, plain.upper() if mark.away else plain, colour)
         self.put(self.workers + block.worker, block.stamp, digit(block.thread), colour)
         for lock in block.held:
             self.put(self.locks + lock, block.stamp, digit(block.worker), by_worker(block.worker))

@@ -35,7 +35,10 @@ def events(line: timeline.Timeline, called: names.Names, first: int, last: int) 
         yield from block_events(mark)
     for mark in marks:
         if mark.came is not None and mark.came.stamp >= first:
-            yield from arrow(mark)
+            # From where a thread came to its LOCK to where its section was adopted or granted, by worker.
+            common = {"name": mark.block.kind, "cat": "passed on", "id": mark.block.stamp}
+            yield {"ph": "s", **common, **lane(WORKERS, mark.came.worker), "ts": mark.came.stamp}
+            yield {"ph": "f", "bp": "e", **common, **lane(WORKERS, mark.block.worker), "ts": mark.block.stamp}
     for gap in gaps:
         yield {"ph": "X", "name": gap.what(), "cat": gap.state, **lane(THREADS, gap.thread), "ts": gap.first,
                "dur": gap.last - gap.first + 1}
@@ -56,14 +59,6 @@ def block_events(mark: timeline.Mark) -> Iterator[dict[str, Any]]:
     for lock in block.held:
         yield {**common, "name": f"worker {block.worker}" + " MOVED" * (lock in mark.moved),
                **lane(LOCKS, lock)}
-
-
-def arrow(mark: timeline.Mark) -> Iterator[dict[str, Any]]:
-    """From where a thread came to its LOCK to where its section was adopted or granted, by worker."""
-    assert mark.came
-    common = {"name": mark.block.kind, "cat": "passed on", "id": mark.block.stamp}
-    yield {"ph": "s", **common, **lane(WORKERS, mark.came.worker), "ts": mark.came.stamp}
-    yield {"ph": "f", "bp": "e", **common, **lane(WORKERS, mark.block.worker), "ts": mark.block.stamp}
 
 
 def show(line: timeline.Timeline, called: names.Names, first: int, last: int, asked: Namespace) -> None:

@@ -17,7 +17,7 @@ import os
 import signal
 import sys
 from collections import Counter
-from typing import Any, Callable, Iterator
+from typing import Any, Callable, Dict, Iterator, List, NamedTuple
 
 from .. import limits, progress, tool
 from ..guest import guestfile, model
@@ -33,16 +33,15 @@ BATCH = 8  # of the histories that a search prints: any is right where each sect
 SHOWN = 60  # so many sections of a way are printed
 
 
-class Outcome:
-    """How often it was seen by whom, and the first report of it with what made it."""
-
-    def __init__(self, lines: list[str], command: str) -> None:
-        self.lines, self.command = lines, command
-        self.counts: Counter[str] = Counter()
+class Outcome(NamedTuple):
+    """The first report of it with what made it, and how often it was seen by whom."""
+    lines: List[str]
+    command: str
+    counts: Dict[str, int]
 
     def seen(self) -> str:
-        return " and ".join(f"{count} by the {name}" for name,
-                            count in self.counts.items()) + f", as of {self.command}"
+        seen = " and ".join(f"{count} by the {name}" for name, count in self.counts.items())
+        return f"{seen}, as of {self.command}"
 
 
 def end_of(lines: list[str]) -> rules.End:
@@ -107,10 +106,16 @@ def show(guest: model.Guest, ends: list[rules.End], most: int, tell: Callable[..
         print(f"\n{len(ends) - most} more outcomes; --most shows more")
 
 
+def write(folder: str, histories: dict[str, str]) -> None:
+    """Writes histories by their names into a folder, which is made where it is not there."""
+    with tool.writing(folder):
+        os.makedirs(folder, exist_ok=True)
+    for name, text in histories.items():
+        tool.write_file(os.path.join(folder, f"{name}.txt"), text)
+
+
 def keep(folder: str, histories: Iterator[Any]) -> None:
-    tool.make_folder(folder)
-    for number, lines in enumerate(histories, 1):
-        tool.write_file(os.path.join(folder, f"outcome-{number}.txt"), "\n".join(lines) + "\n")
+    write(folder, {f"outcome-{number}": "\n".join(lines) + "\n" for number, lines in enumerate(histories, 1)})
     sys.stdout.flush()
     tool.note("explore", f"the first history of each outcome is in {folder}")
 
@@ -118,25 +123,14 @@ def keep(folder: str, histories: Iterator[Any]) -> None:
 def history(guest: model.Guest, fuel: int, threads: tuple[int, ...]) -> list[str]:
     """The report of a history in which these threads have the sections, each run by a worker of its
     thread's own as far as there are eight, and each section taken."""
-    run = legal.Run(guest, min(8, len(guest.entries)), fuel, BATCH)
-    lines = run.header_lines()
-
-    def step(number: int) -> report.Block:
-        block = run.step(number, None, number % run.workers)
-        lines.append(block.line(run.version))
-        return block
-
-    def wants(number: int) -> bool:
-        return run.machine.next_lock(run.machine.threads[number]) is not None
-
-    for number, thread in enumerate(run.machine.threads):
-        while thread.end is None and not wants(number):
-            step(number)
-    for number in threads:
-        released = False
-        while not run.machine.threads[number].end and not (released and wants(number)):
-            released = bool(step(number).released) or released
-    return lines + list(run.ending_lines())
+    run, blocks = legal.Run(guest, min(8, len(guest.entries)), fuel, BATCH), []
+    # Each thread comes to its first LOCK, and then to the next one in each of its sections.
+    for number, released in (*((one, True) for one in range(run.threads)), *((one, False) for one in threads)):
+        thread = run.machine.threads[number]
+        while thread.end is None and not (released and run.machine.next_lock(thread) is not None):
+            blocks.append(run.step(number, None, number % run.workers))
+            released = released or bool(blocks[-1].released)
+    return list(run.lines(blocks))
 
 
 def seen_text(found: search.Search) -> str:
@@ -264,7 +258,7 @@ def sampled(guest: model.Guest, asked: Namespace, before: str,
     outcomes: dict[rules.End, Outcome] = {}
     for name in names:
         for lines, command in runs_of(name, guest, asked, runs, seed):
-            outcomes.setdefault(end_of(lines), Outcome(lines, command)).counts[name] += 1
+            outcomes.setdefault(end_of(lines), Outcome(lines, command, Counter())).counts[name] += 1
     print(f"{before}samples, {' and '.join(f'{runs} runs by the {name}' for name in names)}: "
           f"{several(len(outcomes), 'outcome')} seen{behind}")
     return sorted(outcomes.items(), key=lambda item: (*item[0].order()[:3], -sum(item[1].counts.values())))

@@ -106,14 +106,6 @@ def graded(name: str, path: pathlib.Path, asked: Namespace) -> Graded:
                   {number: history for number, (_, history) in enumerate(answers, 1) if history})
 
 
-def keep(folder: str, one: Graded) -> None:
-    """Writes a guest's histories."""
-    tool.make_folder(folder)
-    for number, history in one.histories.items():
-        name = re.sub(r"[^\w.-]", "-", one.name)
-        tool.write_file(os.path.join(folder, f"{name}-rule-{number}.txt"), history)
-
-
 def print_text(rules: list[Rule], results: list[Graded]) -> None:
     rows = [["guest", "file", *(f"rule {number}" for number in range(1, len(rules) + 1)), "right"]]
     rows += [[one.name, one.file, *one.answers, f"{one.right} of {len(rules)}"] for one in results]
@@ -164,7 +156,9 @@ def main(words: list[str]) -> None:
         raise tool.Trouble(tool.WRONG, f"{folder}: it has no guest, as .elf, .c or .S")
     results = []
     for path in found:
-        results.append(graded(str(path.relative_to(folder)), path, asked))
+        one = graded(str(path.relative_to(folder)), path, asked)
+        results.append(one)
         if asked.kept:
-            keep(asked.kept, results[-1])
+            named = re.sub(r"[^\w.-]", "-", one.name)
+            explore.write(asked.kept, {f"{named}-rule-{number}": text for number, text in one.histories.items()})
     (print_csv if asked.csv else print_text)(asked.rules, results)

@@ -21,10 +21,12 @@ from typing import Callable, Iterable, NamedTuple, Tuple
 from ..guest.rv32im import signed
 
 Value = Callable[["End"], int]  # of an end
+Operation = Callable[[int, int], int]
 TOKEN = re.compile(r"\s*(0x[0-9a-fA-F]+|\d+|[a-z]\w*|==|!=|<=|>=|[-+*()<>])")
 COMPARISONS = {"==": operator.eq, "!=": operator.ne, "<": operator.lt, "<=": operator.le,
                ">": operator.gt, ">=": operator.ge}
-SUMS = {"+": operator.add, "-": operator.sub}
+SUMS: dict[str, Operation] = {"+": operator.add, "-": operator.sub}
+PRODUCTS: dict[str, Operation] = {"*": operator.mul}
 COUNTS: dict[str, Value] = {"faults": lambda end: sum(how.startswith("fault") for how, _ in end.threads),
           "spent": lambda end: sum(how == "spent" for how, _ in end.threads),
           "broken": lambda end: sum(broken for broken, _, _ in end.locks)}
@@ -100,27 +102,23 @@ class Rule:
         name = self.take(*COMPARISONS)
         if name is None:
             return left
-        right, compare = self.sum(), COMPARISONS[name]
+        right = self.sum()
         if self.next() in COMPARISONS:
             raise WrongRule(f"{self.next()!r} stands behind a comparison: join two by 'and'")
-        return lambda end: int(compare(left(end), right(end)))
+        return self.two(COMPARISONS[name], left, right)
 
     def sum(self) -> Value:
-        value = self.product()
-        while True:
-            name = self.take(*SUMS)
-            if name is None:
-                return value
-            value = self.two(SUMS[name], value, self.product())
+        return self.reckoned(SUMS, lambda: self.reckoned(PRODUCTS, self.factor))
 
-    def product(self) -> Value:
-        value = self.factor()
-        while self.take("*"):
-            value = self.two(operator.mul, value, self.factor())
+    def reckoned(self, operations: dict[str, Operation], read: Callable[[], Value]) -> Value:
+        """Parts with operations between, from left to right."""
+        value = read()
+        while self.next() in operations:
+            value = self.two(operations[self.tokens.pop()], value, read())
         return value
 
     @staticmethod
-    def two(operation: Callable[[int, int], int], left: Value, right: Value) -> Value:
+    def two(operation: Operation, left: Value, right: Value) -> Value:
         return lambda end: operation(left(end), right(end))
 
     def factor(self) -> Value:
@@ -168,21 +166,15 @@ class Rule:
         name = self.take()
         if name in ("word", "signed"):
             word = self.below("word", self.sizes[lock] // 4, f" of lock {lock}")
-            if name == "word":
-                return lambda end: end.word(lock, word)
-            return lambda end: signed(end.word(lock, word))
-        if name == "sections":
-            return lambda end: end.locks[lock][1]
-        if name == "broken":
-            return lambda end: end.locks[lock][0]
+            return lambda end: end.word(lock, word) if name == "word" else signed(end.word(lock, word))
+        if name in ("sections", "broken"):
+            return lambda end: end.locks[lock][1] if name == "sections" else end.locks[lock][0]
         raise WrongRule(f"behind 'lock {lock}' stands {name!r}: it wants word W, signed W, sections or broken")
 
     def of_thread(self, thread: int) -> Value:
         name = self.take()
-        if name == "signed" and self.take("x10"):
-            return lambda end: signed(end.threads[thread][1])
-        if name == "x10":
-            return lambda end: end.threads[thread][1]
+        if name == "x10" or name == "signed" and self.take("x10"):
+            return lambda end: end.threads[thread][1] if name == "x10" else signed(end.threads[thread][1])
         if name in ("exit", "spent"):
             return lambda end: int(end.threads[thread][0] == name)
         if name == "fault":

@@ -37,6 +37,12 @@ def explain_file(path: str) -> None:
               + (f" <{name}>" if name else ""))
 
 
+def check_number(name: str, number: int | None, count: int) -> None:
+    """Trouble where a number that was asked for is of a thing that a report, with so many, has not."""
+    if number is not None and number >= count:
+        raise tool.Trouble(tool.WRONG, f"the report has {report.several(count, name)}, and no {name} {number}")
+
+
 class Chosen:
     """Which blocks are shown."""
 
@@ -48,8 +54,7 @@ class Chosen:
 
     def check(self, text: report.Report) -> None:
         for name, number, count in (("thread", self.thread, text.threads), ("lock", self.lock, text.guards)):
-            if number is not None and number >= count:
-                raise tool.Trouble(tool.WRONG, f"the report has {report.several(count, name)}, and no {name} {number}")
+            check_number(name, number, count)
 
     def block(self, block: report.Block) -> bool:
         return ((self.thread is None or block.thread == self.thread)
@@ -106,9 +111,7 @@ def explain_report(file: guestfile.GuestFile, text: report.Report, asked: argpar
     explainer = Explainer(file, text, lines, chosen, asked.contexts)
     explainer.all()
     for number in (asked.trace, asked.block and asked.block[0]):
-        if number is not None and number >= explainer.run.count:
-            count = report.several(explainer.run.count, "block")
-            raise tool.Trouble(tool.WRONG, f"the report has {count}, and no block {number}")
+        check_number("block", number, explainer.run.count)
 
 
 def said_of(words: list[str]) -> str:

@@ -17,6 +17,7 @@ from . import legal
 
 PARTS = re.compile(r"(thread|turns|worker) (\d{1,9})\b|held (-|[\d,]+)|kind (\w+)|pc ([0-9a-f]{8})\b"
                    r"|end (wants \d+|unlocked \d+|slept|cut|exit|fault \d+|spent)")
+PARTS_BEHIND = "held", "kind", "pc", "end"  # what the groups behind the first two are
 REST = re.compile(r"(thread \d+ (exit|fault|spent)|x\d+ |lock |data |end$)")
 
 
@@ -30,39 +31,34 @@ class Line:
         found = re.fullmatch(r"(?:block(?: (\d{1,9}))? )?(.*)", text)
         assert found
         self.stamp, rest = found[1], found[2]
-        at = 0
-        while at < len(rest):
-            part = PARTS.match(rest, at)
+        while rest:
+            part = PARTS.match(rest)
             if not part:
-                raise report.Wrong(f"line {number}: {rest[at:at + 60]!r} is no part of a block line (thread T, "
+                raise report.Wrong(f"line {number}: {rest[:60]!r} is no part of a block line (thread T, "
                                    "turns K, held H, kind K, worker W, pc HEX8, end E)")
             self.add(part)
-            at = part.end()
-            while rest[at:at + 1] == " ":
-                at += 1
+            rest = rest[part.end():].lstrip(" ")
         if "thread" not in self.parts:
             raise report.Wrong(f"line {number}: it names no thread")
 
     def add(self, part: re.Match[str]) -> None:
-        name, digits, held, kind, pc, end = part.groups()
-        for key, value in ((name, digits and int(digits)), ("held", held), ("kind", kind),
-                           ("pc", pc), ("end", end)):
-            if value is not None:
-                if key in self.parts:
-                    raise report.Wrong(f"line {self.number}: {key} stands there twice")
-                self.parts[key] = value
+        name, digits, *others = part.groups()
+        key, value = next((key, value) for key, value in zip((name, *PARTS_BEHIND), (digits, *others)) if value)
+        if key in self.parts:
+            raise report.Wrong(f"line {self.number}: {key} stands there twice")
+        self.parts[key] = int(value) if key == name else value
 
     def check(self, run: legal.Run) -> None:
         """Wrong where the line names something that the run doesn't have."""
-        for name, count in (("thread", len(run.machine.threads)), ("worker", run.workers)):
-            if self.parts.get(name, 0) >= count:
-                raise report.Wrong(f"block {run.count}, line {self.number}: there is no {name} "
-                                   f"{self.parts[name]}, but {name}s 0 to {count - 1}")
+        parts, where = self.parts, f"block {run.count}, line {self.number}"
+        for name, count in (("thread", run.threads), ("worker", run.workers)):
+            if parts.get(name, 0) >= count:
+                raise report.Wrong(f"{where}: there is no {name} {parts[name]}, but {name}s 0 to {count - 1}")
         if self.stamp is not None and int(self.stamp) != run.count:
-            raise report.Wrong(f"block {run.count}, line {self.number}: its stamp is {self.stamp} (without stamps "
-                               "the blocks are numbered in their order)")
-        if self.parts.get("kind", "on") not in limits.KINDS:
-            raise report.Wrong(f"block {run.count}, line {self.number}: there is no kind {self.parts['kind']!r}")
+            raise report.Wrong(f"{where}: its stamp is {self.stamp} (without stamps the blocks are numbered in "
+                               "their order)")
+        if parts.get("kind", "on") not in limits.KINDS:
+            raise report.Wrong(f"{where}: there is no kind {parts['kind']!r}")
 
 
 class History:

@@ -2,7 +2,6 @@
 with the numbers that tell it."""
 from __future__ import annotations
 
-from typing import Callable
 from .. import limits
 from ..guest import guestfile, model, rv32im, sources
 from ..reports import report
@@ -66,16 +65,7 @@ def ending(file: guestfile.GuestFile, thread: model.Thread, held: tuple[int, ...
     number = int(thread.end[6:])
     if number == 2:
         return f"{thread.end}: {fetch(file, thread)}"
-    return f"{thread.end} at {instruction(file, thread.pc)}: {FAULTS[number](file, thread, held)}"
-
-
-def illegal(file: guestfile.GuestFile, thread: model.Thread, _: tuple[int, ...]) -> str:
-    word = file.guest.word(thread.pc) or 0
-    if word & 3 != 3:
-        hint = "the word 0 is none" if word == 0 else "its low bits are those of compressed code (C)"
-    else:
-        hint = EXTENSIONS.get(word & 0x7F, "no row of RV32IM gives it")
-    return f"the word {word:08x} is no instruction: {hint}"
+    return f"{thread.end} at {instruction(file, thread.pc)}: {fault(number, file, thread, held)}"
 
 
 def fetch(file: guestfile.GuestFile, thread: model.Thread) -> str:
@@ -102,16 +92,38 @@ def region(file: guestfile.GuestFile, address: int) -> str:
     return "it is in nothing" + (", as of a null pointer" if address < 4096 else "")
 
 
-def target(file: guestfile.GuestFile, thread: model.Thread, _: tuple[int, ...]) -> str:
-    what = rv32im.decode(file.guest.word(thread.pc) or 0)
-    assert what
-    address = ((thread.x[what.a] + what.value) & ~1 if what.name == "jalr"
-               else thread.pc + what.value) % 2**32
-    return f"it goes to {address:08x}, which is no multiple of 4"
+def fault(number: int, file: guestfile.GuestFile, thread: model.Thread, held: tuple[int, ...]) -> str:
+    """Why a fault with this number came, but for 2."""
+    call, value, locks, word = thread.x[17], thread.x[10], len(file.guest.guards), file.guest.word(thread.pc) or 0
+    if number == 1:
+        hint = ("the word 0 is none" if word == 0 else "its low bits are those of compressed code (C)" if word & 3 != 3
+                else EXTENSIONS.get(word & 0x7F, "no row of RV32IM gives it"))
+        return f"the word {word:08x} is no instruction: {hint}"
+    if number == 3:
+        what = rv32im.decode(word)
+        assert what
+        to = (thread.x[what.a] + what.value) & ~1 if what.name == "jalr" else thread.pc + what.value
+        return f"it goes to {to % 2**32:08x}, which is no multiple of 4"
+    if number < 8:
+        return access(file, thread, word, held)
+    if number == 8:
+        return "EBREAK, as of __builtin_trap"
+    if number == 9:
+        return (f"SLEEP of x10 = {value}, which is above {limits.SLEPT}" if call == limits.SLEEP
+                else f"x17 is {call}, which is no guest call (1 LOCK, 2 UNLOCK, 3 SLEEP, 93 EXIT)")
+    if number == 10 and value < locks:
+        return f"LOCK {value} with four locks held ({report.held_text(held)})"
+    if number == 10:
+        there = f"the locks are 0 to {locks - 1}" if locks else "the guest has no lock: has its file the note?"
+        return f"{call_text(thread)}: {there}"
+    if number == 11:
+        return f"LOCK {value} with {report.held_text(held)} held: a lock must be greater than each that is held"
+    return f"UNLOCK {value}, which isn't held (held: {report.held_text(held)})"
 
 
-def access(file: guestfile.GuestFile, thread: model.Thread, held: tuple[int, ...]) -> str:
-    accessed = rv32im.access(file.guest.word(thread.pc) or 0, thread.x)
+def access(file: guestfile.GuestFile, thread: model.Thread, word: int, held: tuple[int, ...]) -> str:
+    """What is wrong with a load or a store."""
+    accessed = rv32im.access(word, thread.x)
     assert accessed
     kind, address, width = accessed
     said = f"it {kind}s {width} byte{'s' * (width > 1)} at {place(file, address)}"
@@ -122,28 +134,6 @@ def access(file: guestfile.GuestFile, thread: model.Thread, held: tuple[int, ...
         return (f"{said}, in guard {guard} ({guestfile.span(file.guest.spans[guard])}), and lock {guard} isn't "
                 f"held (held: {report.held_text(held)})")
     return f"{said}; {region(file, address)}"
-
-
-def bad_call(_: guestfile.GuestFile, thread: model.Thread, __: tuple[int, ...]) -> str:
-    number, value = thread.x[17], thread.x[10]
-    if number == 3:
-        return f"SLEEP of x10 = {value}, which is above {limits.SLEPT}"
-    return f"x17 is {number}, which is no guest call (1 LOCK, 2 UNLOCK, 3 SLEEP, 93 EXIT)"
-
-
-def bad_lock(file: guestfile.GuestFile, thread: model.Thread, held: tuple[int, ...]) -> str:
-    locks = len(file.guest.guards)
-    if thread.x[10] < locks:
-        return f"LOCK {thread.x[10]} with four locks held ({report.held_text(held)})"
-    there = f"the locks are 0 to {locks - 1}" if locks else "the guest has no lock: has its file the note?"
-    return f"{call_text(thread)}: {there}"
-
-
-FAULTS: dict[int, Callable[[guestfile.GuestFile, model.Thread, tuple[int, ...]], str]] = {
-    1: illegal, 3: target, 4: access, 5: access, 6: access, 7: access, 8: lambda *_: "EBREAK, as of __builtin_trap",
-    9: bad_call, 10: bad_lock, 11: lambda _, thread, held: (
-        f"LOCK {thread.x[10]} with {report.held_text(held)} held: a lock must be greater than each that is held"),
-    12: lambda _, thread, held: f"UNLOCK {thread.x[10]}, which isn't held (held: {report.held_text(held)})"}
 
 
 # Of the line at which a history is rejected.

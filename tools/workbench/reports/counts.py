@@ -40,27 +40,15 @@ LOCK_PROFILE = "sections", *SECTIONS, "longest", "changes", "home"
 THREAD_PROFILE = "blocks", "turns", "moves"
 
 
-class Away:
-    """Follows which worker each thread calls its own: the one that ran its last block without a
-    lock. A section's block that another worker runs is away."""
-
-    def __init__(self, threads: int) -> None:
-        self.own: list[int | None] = [None] * threads
-
-    def is_away(self, block: report.Block) -> bool:
-        own = self.own[block.thread]
-        if not block.held:
-            self.own[block.thread] = block.worker
-        return bool(block.held) and own is not None and own != block.worker
-
-
 class Waits:
     """The waits of some sections: their sum and the longest."""
 
     def __init__(self) -> None:
         self.sections = self.sum = self.longest = 0
 
-    def add(self, wait: int) -> None:
+    def add(self, block: report.Block, before: report.Block | None) -> None:
+        """Of a section: the blocks between its first and its thread's block before, which came to the LOCK."""
+        wait = 0 if before is None else block.stamp - before.stamp - 1
         self.sections += 1
         self.sum += wait
         self.longest = max(self.longest, wait)
@@ -90,7 +78,7 @@ class LockCounts:
         self.row = self.row + 1 if block.kind == "adopted" else 0
         self.rows += self.row == 1
         self.longest = max(self.longest, self.row)
-        self.waits.setdefault(block.thread, Waits()).add(wait(block, before))
+        self.waits.setdefault(block.thread, Waits()).add(block, before)
 
     @property
     def sections(self) -> int:
@@ -122,6 +110,7 @@ class ThreadCounts:
         self.blocks = self.turns = self.held = self.moves = self.away = self.sleeps = 0
         self.waits = Waits()
         self.before: report.Block | None = None
+        self.own: int | None = None  # the worker that ran its last block without a lock
         self.end: str | None = None
 
     def add(self, block: report.Block, away: bool) -> None:
@@ -132,7 +121,9 @@ class ThreadCounts:
         self.sleeps += block.end == "slept"
         self.moves += self.before is not None and self.before.worker != block.worker
         if block.begun is not None:
-            self.waits.add(wait(block, self.before))
+            self.waits.add(block, self.before)
+        if not block.held:
+            self.own = block.worker
         self.before = block
         self.end = block.end if block.ends_thread else None
 
@@ -140,11 +131,6 @@ class ThreadCounts:
 def apart(pairs: Counter[tuple[int, int]], nodes: int = 8) -> int:
     """How many pairs of workers are of two workers, or of two nodes where there are fewer nodes than workers."""
     return sum(count for (one, other), count in pairs.items() if one % nodes != other % nodes)
-
-
-def wait(block: report.Block, before: report.Block | None) -> int:
-    """How many blocks stand between a section and its thread's block before, which came to the LOCK."""
-    return 0 if before is None else block.stamp - before.stamp - 1
 
 
 class Counts:
@@ -156,18 +142,18 @@ class Counts:
         self.locks = [LockCounts() for _ in range(text.guards)]
         self.threads = [ThreadCounts() for _ in range(text.threads)]
         self.workers = [types.SimpleNamespace(blocks=0, turns=0, away=0) for _ in range(text.workers)]
-        self.away = Away(text.threads)
 
     def add(self, block: report.Block) -> bool:
-        """Counts a block. Answers whether it ran away from its thread's own worker."""
-        away = self.away.is_away(block)
+        """Counts a block. Answers whether it is a section's, and ran away from its thread's own worker."""
+        thread = self.threads[block.thread]
+        away = bool(block.held) and thread.own not in (None, block.worker)
         if block.begun is not None:
-            self.locks[block.begun].begin(block, self.threads[block.thread].before, away)
+            self.locks[block.begun].begin(block, thread.before, away)
         for number in block.held:
             lock = self.locks[number]
             lock.turns += block.turns
             lock.worker = block.worker
-        self.threads[block.thread].add(block, away)
+        thread.add(block, away)
         worker = self.workers[block.worker]
         worker.blocks, worker.turns, worker.away = worker.blocks + 1, worker.turns + block.turns, worker.away + away
         return away

@@ -163,13 +163,12 @@ def draw(asked: argparse.Namespace, done: list[Result]) -> None:
 
 def asked_of(words: list[str]) -> argparse.Namespace:
     parser = tool.words("sweep", __doc__ + counts.MEANINGS, "guest")
-    for name, usual in (("workers", "1,2,4,8"), ("batch", "0,1,8,256")):
-        parser.add_argument(f"--{name}", metavar="N,N..", type=numbers(*limits.RUN[name]), default=usual,
-                            help=f"({usual})")
-    parser.add_argument("--nodes", metavar="G,G..", type=numbers(0, limits.NUMBERS["nodes"][1]), default="0",
-                        help="of workers; 0 is an order without nodes (0)")
-    parser.add_argument("--bound", metavar="K,K..", type=numbers(*limits.NUMBERS["bound"]), default="4",
-                        help="so often a waiter may be passed over, with nodes (4)")
+    for name, least, usual, letter, says in (
+            ("workers", 1, "1,2,4,8", "N", ""), ("batch", 0, "0,1,8,256", "N", ""),
+            ("nodes", 0, "0", "G", "of workers; 0 is an order without nodes "),
+            ("bound", 0, "4", "K", "so often a waiter may be passed over, with nodes ")):
+        parser.add_argument(f"--{name}", metavar=f"{letter},{letter}..", default=usual, help=f"{says}({usual})",
+                            type=numbers(least, limits.NUMBERS[name][1]))
     parser.number("--runs", (1, 1000), "of each (3)", 3)
     parser.number("--fuel", limits.RUN["fuel"], "(20000)", 20000)
     parser.number("--seed", (0, 10**9), "of the model's first run (1)", 1)
