@@ -19,6 +19,7 @@ from tools.workbench.reports import report, timeline
 from .common import BY_HAND, BY_HAND_V1, FINISHED, GUEST, NAMES, ONE, ROOT, TEMPORARY, Case, elf, history, run, saved
 
 
+PHILOSOPHERS = history("philosophers", 4, 8, 1)
 BROWSER = next(filter(None, map(shutil.which, ("chromium", "chromium-browser", "google-chrome"))), None)
 
 
@@ -60,7 +61,7 @@ class Page(Case):
                 self.assertEqual(b"".join(value.to_bytes(4, "little") for value in values), lock.bytes)
 
     def test_a_window_begins_where_the_whole_page_is(self) -> None:
-        _, text = history("philosophers", 4, 8, 1)
+        text = PHILOSOPHERS[1]
         whole, part = data_of(made(text, elf("philosophers"))), data_of(made(text, elf("philosophers"), 100, 149))
         self.assertEqual(after(part, 0), after(whole, 100))
         self.assertEqual(after(part, 50), after(whole, 150))
@@ -226,8 +227,7 @@ class Lanes(Case):
                       picture)
 
     def test_waiting_lines_say_for_which_lock(self) -> None:
-        _, text = history("philosophers", 4, 8, 1)
-        picture = run("draw", "-", given=text).stdout.decode()
+        picture = run("draw", "-", given=PHILOSOPHERS[1]).stdout.decode()
         for wanted in re.findall(r"waits for lock (\d)</title>", picture):
             self.assertIn(int(wanted), range(6))
         for part in re.findall(r"<g><title>thread \d, blocks [^<]*(?:waits for|shipped to) lock .*?</g>", picture):
@@ -284,7 +284,7 @@ class Pictures(Case):
             self.assertIn("away from the thread", picture(text, name))
 
     def test_overview_counts(self) -> None:
-        blocks, text = history("philosophers", 4, 8, 1)
+        blocks, text = PHILOSOPHERS
         said = picture(text, "", draw=drawn)
         columns = re.findall(r"<title>blocks (\d+) to (\d+): ((?:[a-z, ]+ [0-9.]+%(?:, )?)+)</title>", said)
         self.assertEqual((int(columns[0][0]), int(columns[-1][1])), (0, len(blocks) - 1))
@@ -296,21 +296,19 @@ class Pictures(Case):
             self.assertAlmostEqual(float(adopted[1]) if adopted else 0, wanted, delta=0.05)
 
     def test_overview_moves_are_those_of_the_blocks(self) -> None:
-        blocks, text = history("philosophers", 4, 8, 1)
         workers: dict[int, int] = {}
         moves = 0
-        for block in blocks:
+        for block in PHILOSOPHERS[0]:
             for lock in block.held:
                 moves += workers.get(lock, block.worker) != block.worker
                 workers[lock] = block.worker
-        said = picture(text, "", draw=drawn)
+        said = picture(PHILOSOPHERS[1], "", draw=drawn)
         panel = said[said.index("Moves of a lock"):said.index("Threads that wait")]
         self.assertEqual(sum(map(int, re.findall(r"lock \d (\d+)(?=[,<])", panel))), moves)
 
     def test_long_runs_become_an_overview_and_windows_are_drawn(self) -> None:
-        text = history("philosophers", 4, 8, 1)[1]
-        self.says("too many to draw each", run("draw - --most 50", given=text))
-        said = run("draw - --from 100 --to 119", given=text).stdout.decode()
+        self.says("too many to draw each", run("draw - --most 50", given=PHILOSOPHERS[1]))
+        said = run("draw - --from 100 --to 119", given=PHILOSOPHERS[1]).stdout.decode()
         self.assertEqual({*map(int, re.findall(r"<title>block (\d+):", said))}, set(range(100, 120)))
 
 
@@ -380,7 +378,6 @@ class Trace(Case):
             self.assertEqual(arrows, len(re.findall(" kind (?:adopted|granted) ", text)))
 
     def test_some_blocks(self) -> None:
-        _, text = history("philosophers", 4, 8, 1)
-        complete, _ = self.check(saved("traced.txt", text), "--from", "40", "--to", "99")
+        complete, _ = self.check(saved("traced.txt", PHILOSOPHERS[1]), "--from", "40", "--to", "99")
         self.assertTrue(all(40 <= event["ts"] and event["ts"] + event["dur"] <= 100 for event in complete))
         self.assertEqual(sum(event["pid"] == 2 for event in complete), 60)

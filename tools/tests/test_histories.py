@@ -6,7 +6,6 @@ from __future__ import annotations
 import collections
 import random
 import re
-import subprocess
 from subprocess import CompletedProcess
 from typing import Any
 
@@ -15,7 +14,7 @@ from tools.workbench.guest import guestfile, model
 from tools.workbench.judging import rejecting
 from tools.workbench.reports import report, spoil
 from tools.workbench.running import delegation, program
-from .common import BY_HAND, BY_HAND_V1, EXIT, FACTS, FINISHED, GUEST, GUESTS, NAMES, ONE, PCS, PROFILE, ROOT, TEMPORARY, Case, built, call, elf, history, run, saved
+from .common import BY_HAND, BY_HAND_V1, EXIT, FACTS, FINISHED, GUEST, GUESTS, NAMES, ONE, PCS, PROFILE, ROOT, TEMPORARY, Case, built, call, elf, history, process, run, saved
 
 
 class ByHand(Case):
@@ -343,7 +342,7 @@ class Exercise(Case):
 
     def edited(self, edit: str, name: str) -> str:
         path = DOCS / "pictures" / f"{name}.txt"
-        return subprocess.run(["sed", edit, path], stdout=subprocess.PIPE, check=True).stdout.decode()
+        return process("sed", edit, path).stdout.decode()
 
     def answered(self, name: str, numbers: tuple[int, int, int], text: str) -> tuple[int, str]:
         """What is answered to the history of a report."""

@@ -40,8 +40,7 @@ def measure(name: str, settings: list[sweep.Setting], to: table.Table) -> None:
 
 
 def main(words: list[str]) -> int:
-    parser = process.words("nodes", __doc__, OWN + OF_BENCH, "all", "run")
-    process.add_number(parser, "runs", 5, "of each order")
+    parser = process.words("nodes", __doc__, OWN + OF_BENCH, "all", "run", runs=(5, "of each order"))
     asked = process.parsed(parser, words, OWN + OF_BENCH)
     settings = sorted(sweep.settings_of(argparse.Namespace(
         workers=[asked.workers], batch=[asked.batch], fuel=asked.fuel, nodes=NODES, bound=BOUNDS, runs=asked.runs), "program"),

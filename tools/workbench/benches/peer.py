@@ -97,18 +97,10 @@ def measure(name: str, asked: Namespace, peer: Path, to: table.Table) -> list[fl
     return ratios
 
 
-def sum_up(folder: str, ratios: dict[str, list[float]]) -> None:
-    """Tells the ratios of a folder's guests in one line."""
-    log, text = ({name: pair[which] for name, pair in ratios.items()} for which in (0, 1))
-    print(f"\nOf {report.several(len(ratios), 'guest')} of {folder}, the program's processor seconds in those of "
-          f"the peer: {table.spread(log)}; in those of the peer with text: {table.spread(text)}.")
-
-
 def main(words: list[str]) -> int:
     known = (*guests.GUESTS, *FACTS)
-    parser = process.words("peer", __doc__, known, "all")
-    process.add_number(parser, "fuel", limits.RUN["fuel"][1], "of each thread")
-    process.add_number(parser, "runs", 5, "of each")
+    parser = process.words("peer", __doc__, known, "all", fuel=(limits.RUN["fuel"][1], "of each thread"),
+                           runs=(5, "of each"))
     cores = os.sched_getaffinity(0)
     parser.number("-c", (0, 9999), "the processor on which all runs (the last one)", max(cores), "CORE", dest="core")
     asked = process.parsed(parser, words, known, cores)
@@ -117,7 +109,8 @@ def main(words: list[str]) -> int:
         peer, to = process.compiled("peer.c", folder, "-pthread"), table.Table("peer", asked, COLUMNS)
         ratios = dict(to.fill("guests", asked.guests or known, lambda name: measure(name, asked, peer, to)))
     for folder, names in ("bench/", guests.GUESTS), ("guests/", FACTS):
-        found = {name: ratios[name] for name in names if name in ratios}
-        if found:
-            sum_up(folder, found)
+        log, text = ({name: ratios[name][which] for name in names if name in ratios} for which in (0, 1))
+        if log:
+            print(f"\nOf {report.several(len(log), 'guest')} of {folder}, the program's processor seconds in those of "
+                  f"the peer: {table.spread(log)}; in those of the peer with text: {table.spread(text)}.")
     return to.end()

@@ -10,7 +10,7 @@ import subprocess
 import tempfile
 import time
 from pathlib import Path
-from typing import IO, Any, Iterable, Iterator, NamedTuple
+from typing import IO, Any, Callable, Iterable, Iterator, NamedTuple
 
 from .. import limits, tool
 from ..running import program
@@ -28,26 +28,28 @@ class Took(NamedTuple):
     peak: int
 
 
-def words(bench: str, doc: str | None, known: Iterable[str], usual: str, *first: str) -> tool.Words:
-    """The parser of a bench's words: guests, the program, and where the raw results go."""
+def words(bench: str, doc: str | None, known: Iterable[str], usual: str, *first: str, **numbers: Any) -> tool.Words:
+    """The parser of a bench's words: guests, the program, where the raw results go; and numbers of a run, as -b or -f,
+    or -r for how many runs there are. Of each is given what is usual, a list where it may be several, as 1,4, what it
+    says, and another least one."""
     parser = tool.words(f"bench {bench}", doc, *first)
     parser.add_argument("guests", metavar="GUEST", nargs="*", help=f"{', '.join(known)}; {usual} when left out")
     parser.add_argument("-p", dest="program", metavar="PROGRAM", type=Path,
                         help="the program that is measured (the one that ./tclocks-build has built)")
     parser.add_argument("--results", metavar="FILE", help="keep the raw results there; bench table prints them")
+    for name, (given, says, *least) in numbers.items():
+        low, high = limits.RUN.get(name, (1, 9999))
+        some = least[0] if least else low, high
+        if isinstance(given, list):
+            parser.add_argument(f"-{name[0]}", dest=name, metavar=f"{name.upper()},..", default=given,
+                                type=listed(tool.number(*some)), help=f"{says} ({','.join(map(str, given))})")
+        else:
+            parser.number(f"-{name[0]}", some, f"{says} ({given})", given, name.upper(), dest=name)
     return parser
 
 
-def add_number(parser: tool.Words, name: str, usual: int, says: str) -> None:
-    """A word for a number of a run: -b, -f; or -r for how many runs there are."""
-    parser.number(f"-{name[0]}", limits.RUN.get(name, (1, 9999)), f"{says} ({usual})", usual, name.upper(), dest=name)
-
-
-def add_list(parser: tool.Words, name: str, usual: list[int], says: str, least: int = 1) -> None:
-    """A word for several numbers of a run, as 1,4."""
-    one = tool.number(least, limits.RUN[name][1])
-    parser.add_argument(f"-{name[0]}", dest=name, metavar=f"{name.upper()},..", default=usual,
-                        type=lambda word: [*map(one, word.split(","))], help=f"{says} ({','.join(map(str, usual))})")
+def listed(one: Callable[[str], int]) -> Callable[[str], list[int]]:
+    return lambda word: [*map(one, word.split(","))]
 
 
 def parsed(parser: tool.Words, given: list[str], known: Iterable[str],

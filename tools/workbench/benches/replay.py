@@ -71,10 +71,10 @@ def measure(name: str, fuel: int, asked: Namespace, to: table.Table) -> None:
 
 
 def main(words: list[str]) -> int:
-    parser = process.words("replay", __doc__, guests.GUESTS, ", ".join(USUAL))
-    process.add_number(parser, "batch", 0, "batch limit")
-    process.add_list(parser, "fuel", [limits.RUN["fuel"][1]], "of each thread; of several numbers each gets a line")
-    process.add_number(parser, "runs", 1, "runs of each, of which the least numbers are told")
+    parser = process.words(
+        "replay", __doc__, guests.GUESTS, ", ".join(USUAL), batch=(0, "batch limit"),
+        fuel=([limits.RUN["fuel"][1]], "of each thread; of several numbers each gets a line"),
+        runs=(1, "runs of each, of which the least numbers are told"))
     asked = process.parsed(parser, words, guests.GUESTS)
     lines = [(name, fuel) for name in asked.guests or USUAL for fuel in asked.fuel]
     to = table.Table("replay", asked, COLUMNS)

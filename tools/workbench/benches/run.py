@@ -89,11 +89,10 @@ def measure(name: str, workers: int, asked: Namespace, how: Counter | None, to: 
 
 
 def main(words: list[str]) -> int:
-    parser = process.words("run", __doc__, guests.GUESTS, "all")
-    process.add_list(parser, "workers", [1], "1 to 8; of several numbers, as 1,4, each gets a line")
-    process.add_number(parser, "batch", 0, "batch limit")
-    process.add_number(parser, "fuel", limits.RUN["fuel"][1], "of each thread")
-    process.add_number(parser, "runs", 1, "runs, of which the one that took the least seconds is told")
+    parser = process.words(
+        "run", __doc__, guests.GUESTS, "all", workers=([1], "1 to 8; of several numbers, as 1,4, each gets a line"),
+        batch=(0, "batch limit"), fuel=(limits.RUN["fuel"][1], "of each thread"),
+        runs=(1, "runs, of which the one that took the least seconds is told"))
     parser.add_argument("-o", dest="folder", metavar="FOLDER", type=Path,
                         help="only write the guests' files into a folder, which is made where it is not there")
     asked = process.parsed(parser, words, guests.GUESTS)

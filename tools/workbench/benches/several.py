@@ -127,18 +127,15 @@ def measure(name: str, asked: Namespace, clock: Path | None, loop: Path | None, 
     # What the most threads take more than one for so many additions to one word.
     shared, one = (taken(asked, [ran((threads, blocks), path=clock) for _ in range(asked.runs)], "busy")
                    for threads in (asked.workers[-1], 1)) if clock else (0, 0)
-    to.row([name, *seconds, *busy, *ratios, shared - one if clock else None, of_loops(asked, loops) if loop else None, shared_loop(asked, seconds[0], loops, loop) if loop else None,
-            f"{len(runs[asked.workers[-1]])} of {made}"],
+    to.row([name, *seconds, *busy, *ratios, shared - one if clock else None, of_loops(asked, loops) if loop else None,
+            shared_loop(asked, seconds[0], loops, loop) if loop else None, f"{len(runs[asked.workers[-1]])} of {made}"],
            {workers: [took for took, _ in found] for workers, found in runs.items()})
     return ratios
 
 
 def main(words: list[str]) -> None:
-    parser = process.words("several", __doc__, guests.GUESTS, ", ".join(USUAL))
-    process.add_list(parser, "workers", [1, 2, 4], "1 to 8 each")
-    process.add_number(parser, "batch", 8, "batch limit")
-    process.add_number(parser, "fuel", limits.RUN["fuel"][1], "of each thread")
-    process.add_number(parser, "runs", 9, "of each")
+    parser = process.words("several", __doc__, guests.GUESTS, ", ".join(USUAL), workers=([1, 2, 4], "1 to 8 each"),
+                           batch=(8, "batch limit"), fuel=(limits.RUN["fuel"][1], "of each thread"), runs=(9, "of each"))
     parser.add_argument("-q", dest="quiet", metavar="NUMBER", type=float,
                         help="count only rounds before and behind which the number of the column Loop is at most this, as 1.1")
     parser.add_argument("-e", dest="even", action="store_true",
@@ -147,6 +144,11 @@ def main(words: list[str]) -> None:
                         help="tell the median of the runs in the place of the least")
     asked = process.parsed(parser, words, guests.GUESTS)
     asked.workers = sorted({*asked.workers})
+    measure_all(asked)
+
+
+def measure_all(asked: Namespace) -> None:
+    """Prints the table, and what it tells in a line."""
     wants_loop = [word for word, is_asked in (("-q", asked.quiet is not None), ("-e", asked.even)) if is_asked]
     if wants_loop and not shutil.which("cc"):
         raise tool.Trouble(tool.INPUT, f"{wants_loop[0]} needs a C compiler, and cc is not on the PATH")

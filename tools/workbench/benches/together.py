@@ -78,24 +78,18 @@ def measure(host: Host, name: str, workers: int, runs: int, to: table.Table) -> 
     return found
 
 
-def sum_up(kind: str, ran: list[Ran]) -> None:
-    """Tells the runs of a kind in one line."""
-    times = [one.milliseconds for one in ran]
-    print(f"\nThreads of the host: {kind}. All of {len(ran)} runs ended with status 0; in {sum(one.several for one in ran)} two "
-          f"workers or more ran blocks, in {sum(one.adopted for one in ran)} a section was adopted; median "
-          f"{statistics.median(times):.1f} milliseconds, least {min(times):.1f}.")
-
-
 def main(words: list[str]) -> None:
     known = (*OWN, *guests.GUESTS)
-    parser = process.words("together", __doc__, known, ", ".join(OWN))
-    process.add_list(parser, "workers", [4, 8], "2 to 8; of several numbers each gets lines", 2)
-    process.add_number(parser, "runs", 40, "of each")
+    parser = process.words("together", __doc__, known, ", ".join(OWN),
+                           workers=([4, 8], "2 to 8; of several numbers each gets lines", 2), runs=(40, "of each"))
     asked = process.parsed(parser, words, known)
     with tempfile.TemporaryDirectory() as folder:
         host, to = Host(folder), table.Table("together", asked, COLUMNS)
         lines = [(name, workers) for name in asked.guests or OWN for workers in asked.workers]
         found = to.fill("of guests and workers", lines, lambda line: measure(host, line[0], line[1], asked.runs, to))
     for kind in GIVEN if found else ():
-        sum_up(kind, [one for _, ran in found for one in ran[kind]])
+        several, adopted, times = zip(*(one for _, ran in found for one in ran[kind]))
+        print(f"\nThreads of the host: {kind}. All of {len(times)} runs ended with status 0; in {sum(several)} two "
+              f"workers or more ran blocks, in {sum(adopted)} a section was adopted; median "
+              f"{statistics.median(times):.1f} milliseconds, least {min(times):.1f}.")
     to.end()

@@ -47,16 +47,6 @@ CHANGED = 4  # of so many runs the history of one is changed
 TAKEN = "taken"  # of a changed history that is right too
 
 
-def run(file: bytes, words: tuple[Any, ...]) -> str:
-    status, text = program.run(words, file)
-    workers, fuel, batch = words[-3:]
-    if status:
-        raise report.Wrong(f"status {status}, {text[:200]!r}")
-    if f"\nrun workers {workers} fuel {fuel} batch {batch}\n" not in text:
-        raise report.Wrong("the report is of another run")
-    return text
-
-
 def check_facts(known: dict[str, list[Any]], machine: model.Machine, fuel: int) -> None:
     if fuel == AMPLE:
         for difference in model.differences(known, machine):
@@ -70,8 +60,12 @@ def check_facts(known: dict[str, list[Any]], machine: model.Machine, fuel: int) 
 
 def check_run(file: bytes, known: dict[str, list[Any]], words: tuple[Any, ...]) -> str:
     """Checks a run, and answers its report."""
-    guest, text = model.Guest(file), run(file, words)
+    guest, (status, text) = model.Guest(file), program.run(words, file)
     workers, fuel, batch = words[-3:]
+    if status:
+        raise report.Wrong(f"status {status}, {text[:200]!r}")
+    if f"\nrun workers {workers} fuel {fuel} batch {batch}\n" not in text:
+        raise report.Wrong("the report is of another run")
     check_facts(known, legal.replay_whole(guest, text), fuel)
     if workers == 1:
         delegation.check_alone(guest, fuel, batch, text)

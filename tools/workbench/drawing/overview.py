@@ -102,14 +102,6 @@ class Overview:
     def x(self, column: int) -> float:
         return self.left + self.wide * column
 
-    def scale(self, top: int, bottom: int, highest: float, unit: str = "") -> None:
-        """The axis of a panel."""
-        for y, value in ((top, highest), (bottom, 0)):
-            self.picture.add(f'<path stroke="#aaa" stroke-width=".6" d="M{self.left - 4:g} {y:g}'
-                             f'H{self.x(self.columns.count):g}"/>')
-            self.picture.add(f'<text class="axis" text-anchor="end" x="{self.left - 8:g}" y="{y + 3:g}">'
-                             f'{value:g}{unit}</text>')
-
     def stamps(self) -> None:
         """The stamps below a panel."""
         columns = self.columns
@@ -128,7 +120,11 @@ class Overview:
     def panel(self, rows: list[list[float]], colours: Any, names: Any, highest: float, unit: str = "") -> None:
         """Bars of all columns; rows has a column's shares of the highest."""
         top = self.picture.height + 6
-        self.scale(top, top + PANEL, highest, unit)
+        for y, value in ((top, highest), (top + PANEL, 0)):
+            self.picture.add(f'<path stroke="#aaa" stroke-width=".6" d="M{self.left - 4:g} {y:g}'
+                             f'H{self.x(self.columns.count):g}"/>')
+            self.picture.add(f'<text class="axis" text-anchor="end" x="{self.left - 8:g}" y="{y + 3:g}">'
+                             f'{value:g}{unit}</text>')
         for column, values in enumerate(rows):
             said = ", ".join(f"{name} {value:.3g}{unit}" for name, value in zip(names, values) if value)
             self.bars(column, said or "nothing", top + PANEL, PANEL, [value / highest for value in values], colours)

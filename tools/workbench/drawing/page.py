@@ -107,17 +107,13 @@ def nearest(marks: Any, threads: int) -> list[list[Any] | None]:
             for thread in range(threads)]
 
 
-def broken_by(marks: list[timeline.Mark], locks: int) -> list[int]:
-    """Of each lock the stamp of the block that broke it, or -1: whose thread ended with it."""
-    found = {lock: mark.block.stamp for mark in reversed(marks) if mark.block.ends_thread for lock in mark.block.held}
-    return [found.get(lock, -1) for lock in range(locks)]
-
-
 def data(line: timeline.Timeline, called: names.Names, first: int, last: int, title: str,
          guest: tuple[guestfile.GuestFile, sources.Sources] | None) -> dict[str, Any] | None:
     """What the page's script reads."""
     player = played(guest, line, first, last) if guest else None
     texts, threads, rows = {"": 0}, line.text.threads, []  # texts: each with its number
+    # The stamp of the block that broke a lock: whose thread ended with it.
+    broken = {lock: mark.block.stamp for mark in line.marks[::-1] if mark.block.ends_thread for lock in mark.block.held}
     for mark in line.marks[first:last + 1]:
         block = mark.block
         start = player.starts[block.stamp] if player else f"pc {block.pc:08x}" if block.pc is not None else ""
@@ -128,7 +124,7 @@ def data(line: timeline.Timeline, called: names.Names, first: int, last: int, ti
             "workerColours": [textlanes.by_worker(worker) for worker in range(len(svg.WORKERS))],
             "blocks": rows, "before": nearest(line.marks[:first][::-1], threads),
             "behind": nearest(line.marks[last + 1:], threads),
-            "broken": broken_by(line.marks, line.text.guards), "starts": list(texts),
+            "broken": [broken.get(lock, -1) for lock in range(line.text.guards)], "starts": list(texts),
             **(player.data() if player else {"registers": None, "words": None, "changes": []})}
 
 

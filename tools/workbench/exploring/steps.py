@@ -170,8 +170,7 @@ class Code:
         if name == "jal":
             return raising(3) if value % 4 else constant(to, after, pc + value & MASK)
         if name == "jalr":
-            jump = indirect(to, a, value, after)
-            return self.returning(self.known, jump) if self.known and is_return(what) else jump
+            return indirect(to, a, value, after, self.known if is_return(what) else None)
         if name in model.COMPARISONS:
             return branch(model.COMPARISONS[name], a, b, pc + value & MASK, after)
         if name in rv32im.WIDTHS:
@@ -190,14 +189,6 @@ class Code:
             return with_registers(to, a, b, model.OPERATIONS[name], after)
         return {"ecall": CALL, "ebreak": raising(8), "fence": constant(0, 0, after)}[name]
 
-    @staticmethod
-    def returning(known: Live, jump: Step) -> Step:
-        def step(x: Registers, run: blocks.Running) -> int:
-            to = jump(x, run)
-            known.expect(to)
-            return to
-        return step
-
 
 def raising(number: int) -> Step:
     def step(x: Registers, run: blocks.Running) -> int:
@@ -213,13 +204,16 @@ def constant(to: int, value: int, after: int) -> Step:
     return step
 
 
-def indirect(to: int, a: int, value: int, after: int) -> Step:
+def indirect(to: int, a: int, value: int, after: int, known: Live | None) -> Step:
+    """A jump; `known` is what a return must go by."""
     def step(x: Registers, run: blocks.Running) -> int:
         target = number(x, a) + value & MASK - 1
         if target & 2:
             raise Fault(3)
         if to:
             x[to] = after
+        if known:
+            known.expect(target)
         return target
     return step
 

@@ -60,12 +60,6 @@ def swapped(draw: fuzz.Draw, file: bytes) -> bytes:
     return with_word(with_word(file, one, word(file, other)), other, word(file, one))
 
 
-def with_notes(draw: fuzz.Draw, file: bytes, notes: bytes) -> bytes:
-    """With other notes, behind all else."""
-    file = with_word(file, place(0, OFFSET), len(file)) + notes
-    return with_word(file, place(0, FILE_SIZE), len(notes) - draw.choice((0, 0, 0, 1, 3, 4)))
-
-
 def other_notes(draw: fuzz.Draw) -> bytes:
     """A note that is none on threads, or is by a little."""
     size = draw.randrange(9)
@@ -87,7 +81,9 @@ def repeated(draw: fuzz.Draw, file: bytes) -> bytes:
     own = file[made.NOTE:made.NOTE + word(file, place(0, FILE_SIZE))]
     parts = [own, *(other_notes(draw) for _ in range(draw.randrange(3)))]
     parts += [own] * (draw.random() < 0.2)
-    return with_notes(draw, file, b"".join(draw.sample(parts, len(parts))))
+    notes = b"".join(draw.sample(parts, len(parts)))  # behind all else
+    file = with_word(file, place(0, OFFSET), len(file)) + notes
+    return with_word(file, place(0, FILE_SIZE), len(notes) - draw.choice((0, 0, 0, 1, 3, 4)))
 
 
 def wrapped(draw: fuzz.Draw, file: bytes) -> bytes:

@@ -40,7 +40,6 @@ def check(file: bytes) -> None:
 
 def of_file(file: bytes) -> Iterator[Finding]:
     """All that is looked at in a file, in this order; what comes behind a refusal is not looked at."""
-    yield from of_identity(file)
     yield from of_header(file)
     headers = list(elf32.headers(file))
     for header in headers:
@@ -55,7 +54,7 @@ def of_file(file: bytes) -> Iterator[Finding]:
     yield from of_guards(guards, ranges)
 
 
-def of_identity(file: bytes) -> Iterator[Finding]:
+def of_header(file: bytes) -> Iterator[Finding]:
     yield len(file) > limits.FILE_BYTES, 0, f"the file has more than {limits.FILE_BYTES} bytes"
     yield len(file) < elf32.HEADER, 1, f"the file has {len(file)} bytes, fewer than the {elf32.HEADER} of a header"
     yield file[:4] != b"\x7fELF", 2, f"it begins with {file[:4].hex(' ')}, not with 7f 45 4c 46"
@@ -71,15 +70,11 @@ def of_identity(file: bytes) -> Iterator[Finding]:
              6: "floats in quad registers", 8: "RV32E"}
     said = [names[bits] for bits in (flags & 1, flags & 6, flags & 8) if bits]
     yield said, 6, f"e_flags is {flags:#x}: {', '.join(said)}"
-
-
-def of_header(file: bytes) -> Iterator[Finding]:
     version, (at, size, count) = elf32.word(file, 20), elf32.headers_place(file)
     end = at + size * count
     yield version != 1, 7, f"e_version is {version}, not 1"
     yield size != elf32.PROGRAM_HEADER, 7, f"e_phentsize is {size}, not {elf32.PROGRAM_HEADER}"
-    most = limits.PROGRAM_HEADERS
-    yield not 1 <= count <= most, 7, f"e_phnum is {count}, not 1 to {most}"
+    yield not 1 <= count <= limits.PROGRAM_HEADERS, 7, f"e_phnum is {count}, not 1 to {limits.PROGRAM_HEADERS}"
     yield end > len(file), 7, f"the {count} program headers from {at} on end at {end}, {past_end(end, file)}"
 
 

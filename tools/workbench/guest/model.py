@@ -6,7 +6,9 @@ accepts; it refuses none itself.
 """
 from __future__ import annotations
 
+import operator
 from typing import Any, Callable, Collection, Iterator
+
 from .. import limits
 from . import elf32, rv32im
 from .rv32im import signed
@@ -14,34 +16,33 @@ from .rv32im import signed
 STACK = limits.STACK
 ECALL = rv32im.WHOLE["ecall"]
 SIGNED = ("lb", "lh", "lw")  # loads that extend the sign
-COMPARISONS: dict[str, Callable[[int, int], bool]] = {
-    "beq": lambda a, b: a == b,
-    "bne": lambda a, b: a != b,
-    "blt": lambda a, b: signed(a) < signed(b),
-    "bge": lambda a, b: signed(a) >= signed(b),
-    "bltu": lambda a, b: a < b,
-    "bgeu": lambda a, b: a >= b,
-}
-OPERATIONS: dict[str, Callable[[int, int], int]] = {
-    "add": lambda a, b: a + b,
-    "sub": lambda a, b: a - b,
-    "sll": lambda a, b: a << (b & 31),
-    "slt": lambda a, b: int(signed(a) < signed(b)),
-    "sltu": lambda a, b: int(a % 2**32 < b % 2**32),
-    "xor": lambda a, b: a ^ b,
-    "srl": lambda a, b: a >> (b & 31),
-    "sra": lambda a, b: signed(a) >> (b & 31),
-    "or": lambda a, b: a | b,
-    "and": lambda a, b: a & b,
-    "mul": lambda a, b: a * b,
-    "mulh": lambda a, b: signed(a) * signed(b) >> 32,
-    "mulhsu": lambda a, b: signed(a) * b >> 32,
-    "mulhu": lambda a, b: a * b >> 32,
-    "div": lambda a, b: quotient(signed(a), signed(b)),
-    "divu": lambda a, b: quotient(a, b),
-    "rem": lambda a, b: remainder(signed(a), signed(b)),
-    "remu": lambda a, b: remainder(a, b),
-}
+Operation = Callable[[int, int], Any]
+
+
+def of_signed(operation: Operation) -> Operation:
+    """The operation on words that are read with a sign."""
+    return lambda a, b: operation(signed(a), signed(b))
+
+
+def quotient(a: int, b: int) -> int:
+    """Rounded toward zero; of a division by zero -1."""
+    return abs(a) // abs(b) * (1 if (a < 0) == (b < 0) else -1) if b else -1
+
+
+def remainder(a: int, b: int) -> int:
+    return a - quotient(a, b) * b
+
+
+COMPARISONS: dict[str, Operation] = {
+    "beq": operator.eq, "bne": operator.ne, "blt": of_signed(operator.lt), "bge": of_signed(operator.ge),
+    "bltu": operator.lt, "bgeu": operator.ge}
+OPERATIONS: dict[str, Operation] = {
+    "add": operator.add, "sub": operator.sub, "xor": operator.xor, "or": operator.or_, "and": operator.and_,
+    "slt": of_signed(operator.lt), "sltu": lambda a, b: a % 2**32 < b % 2**32,
+    "sll": lambda a, b: a << (b & 31), "srl": lambda a, b: a >> (b & 31), "sra": lambda a, b: signed(a) >> (b & 31),
+    "mul": operator.mul, "mulh": lambda a, b: signed(a) * signed(b) >> 32,
+    "mulhsu": lambda a, b: signed(a) * b >> 32, "mulhu": lambda a, b: a * b >> 32,
+    "div": of_signed(quotient), "divu": quotient, "rem": of_signed(remainder), "remu": remainder}
 IMMEDIATES = {"sltiu": "sltu", **{f"{name}i": name for name in ("add", "sll", "slt", "xor", "srl", "sra", "or", "and")}}
 
 
@@ -268,15 +269,6 @@ def target(address: int) -> int:
     if address % 4:
         raise Fault(3)
     return address
-
-
-def quotient(a: int, b: int) -> int:
-    """Rounded toward zero; of a division by zero -1."""
-    return abs(a) // abs(b) * (1 if (a < 0) == (b < 0) else -1) if b else -1
-
-
-def remainder(a: int, b: int) -> int:
-    return a - quotient(a, b) * b
 
 
 def differences(facts: dict[str, Any], machine: Any) -> Iterator[str]:

@@ -38,22 +38,18 @@ class Sources:
         self.folders = [pathlib.Path(os.path.dirname(path) or "."), places.KIT]
         self.texts: Dict[str, List[str]] = {}
         self.is_there = any(section.name == ".debug_line" for section in elf32.sections(content))
-        if self.is_there and self.reader() is None:
+        self.reader: Optional[str] = next(filter(None, map(shutil.which, READERS)), None)
+        if self.is_there and self.reader is None:
             self.trouble = f"the guest has debug data, and none of {', '.join(READERS)} is on the PATH to read it"
-
-    @staticmethod
-    def reader() -> Optional[str]:
-        return next(filter(None, map(shutil.which, READERS)), None)
 
     @functools.cached_property
     def frames(self) -> Dict[int, List[Place]]:
         """By the address of an instruction its places: of an inlined function's the innermost first."""
-        reader = self.reader()
-        if not self.is_there or reader is None:
+        if not self.is_there or self.reader is None:
             return {}
         asked = "".join(f"{address:#x}\n" for where in self.code for address in where[::4])
         try:
-            done = subprocess.run([reader, "-a", "-i", "-e", self.path], input=asked.encode("ascii"),
+            done = subprocess.run([self.reader, "-a", "-i", "-e", self.path], input=asked.encode("ascii"),
                                   capture_output=True, check=False, timeout=SECONDS)
         except (OSError, subprocess.TimeoutExpired):
             return {}

@@ -64,15 +64,11 @@ def ending(file: guestfile.GuestFile, thread: model.Thread, held: tuple[int, ...
     assert thread.end
     number = int(thread.end[6:])
     if number == 2:
-        return f"{thread.end}: {fetch(file, thread)}"
+        code = ", ".join(guestfile.span(where) for where, flags, _ in file.guest.ranges if flags & 1)
+        return (f"{thread.end}: the program counter {place(file, thread.pc)} lies in no executable range "
+                f"({region(file, thread.pc)}; executable: {code})"
+                + "; x1 was 0 at the start, so a return from the first function comes here" * (thread.pc == 0))
     return f"{thread.end} at {instruction(file, thread.pc)}: {fault(number, file, thread, held)}"
-
-
-def fetch(file: guestfile.GuestFile, thread: model.Thread) -> str:
-    return (f"the program counter {place(file, thread.pc)} lies in no executable range "
-            f"({region(file, thread.pc)}; executable: "
-            + ", ".join(guestfile.span(where) for where, flags, _ in file.guest.ranges if flags & 1) + ")"
-            + ("; x1 was 0 at the start, so a return from the first function comes here" * (thread.pc == 0)))
 
 
 def region(file: guestfile.GuestFile, address: int) -> str:

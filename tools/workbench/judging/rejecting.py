@@ -102,16 +102,6 @@ def text_of(lines: Iterable[str]) -> str:
     return "".join(f"{line}\n" for line in lines)
 
 
-def refused_line(size: int, given: bytes) -> str | None:
-    """The line of the refusal of what is given, of which the first bytes, so many, are the file. Or None."""
-    if len(given) > size + limits.HISTORY_BYTES:
-        return "refused 0 TooLarge"
-    if len(given) < size:
-        return "refused 17 ShortInput"
-    refused = guestfile.refusal(given[:size])
-    return refused.line if refused else None
-
-
 class Given:
     """What is given behind the words `replay` or `profile`: a file of so many bytes and a history; with the
     numbers of workers and fuel and the batch limit."""
@@ -123,16 +113,20 @@ class Given:
 
     def begin(self, size: int, given: bytes) -> tuple[int, str] | None:
         """The answer to what is refused or rejected, or None."""
-        refused = refused_line(size, given)
+        if len(given) > size + limits.HISTORY_BYTES:
+            return tool.WRONG, "refused 0 TooLarge\n"
+        if len(given) < size:
+            return tool.WRONG, "refused 17 ShortInput\n"
+        refused = guestfile.refusal(given[:size])
         if refused:
-            return tool.WRONG, text_of([refused])
+            return tool.WRONG, f"{refused.line}\n"
         self.blocks, wrong = read(given[size:])
         self.checker = Checker(model.Guest(given[:size]), *self.numbers)
         rejected = (wrong, TEXT) if wrong else self.checker.rejected(self.blocks)
         if rejected is None:
             return None
         line, self.reason = rejected
-        return limits.REJECTED, text_of([f"rejected {line} {REASONS.index(self.reason) + 1} {self.reason}"])
+        return limits.REJECTED, f"rejected {line} {REASONS.index(self.reason) + 1} {self.reason}\n"
 
     def answer(self, form: str) -> tuple[int, str]:
         """The status and the text of the program's answer."""

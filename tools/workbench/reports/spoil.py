@@ -119,18 +119,14 @@ def front(draw: Random, blocks: list[report.Block]) -> str:
     return text_of(blocks[:draw.randrange(len(blocks))])
 
 
-def numbered(blocks: list[report.Block]) -> str:
-    """The text of these blocks with the stamps of their places."""
-    return text_of(block._replace(stamp=stamp) for stamp, block in enumerate(blocks))
-
-
 def moved(draw: Random, blocks: list[report.Block]) -> str:
-    """Two blocks in each other's place, one left out, or one twice."""
+    """Two blocks in each other's place, one left out, or one twice; with the stamps of their places."""
     one, two = sorted(draw.randrange(len(blocks)) for _ in range(2))
-    return numbered(draw.choice((
+    chosen = draw.choice((
         [*blocks[:one], blocks[two], *blocks[one + 1:two], blocks[one], *blocks[two + 1:]] if one < two else blocks,
         [*blocks[:one], *blocks[one + 1:]], [*blocks[:one], blocks[two], *blocks[one:]],
-        [*blocks[:one], *blocks[one + 1:two + 1], blocks[one], *blocks[two + 1:]])))
+        [*blocks[:one], *blocks[one + 1:two + 1], blocks[one], *blocks[two + 1:]]))
+    return text_of(block._replace(stamp=stamp) for stamp, block in enumerate(chosen))
 
 
 FORMS = (spelling, thread, owner, run, kind, worker, front, moved)
