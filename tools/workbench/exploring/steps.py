@@ -1,17 +1,18 @@
-"""A guest's instructions, decoded once: functions of the registers and of the running thread that
-answer the next program counter, or raise Fault and change nothing.
+"""A guest's instructions, decoded once: functions whose operands are bound, of the registers and of the running
+thread, that answer the next program counter, or raise Fault and change nothing.
 
 They do what model.py does, only faster; tools/tests compares the two block by block.
 """
 from __future__ import annotations
 
+from functools import partial
 from typing import TYPE_CHECKING, Callable, List, Union
 
 from ..guest import model, rv32im
 from ..guest.model import Fault
 
 if TYPE_CHECKING:
-    from . import blocks
+    from .blocks import Held, Running
 
 MASK = 0xFFFFFFFF
 
@@ -21,7 +22,7 @@ class Sum:
 
     __slots__ = ("lock", "word", "found", "added")
 
-    def __init__(self, lock: blocks.Held, word: int, found: int, added: int) -> None:
+    def __init__(self, lock: Held, word: int, found: int, added: int) -> None:
         self.lock, self.word, self.found, self.added = lock, word, found, added
 
     def plus(self, number: int) -> Sum:
@@ -37,7 +38,7 @@ class Sum:
 
 
 Registers = List[Union[int, Sum]]
-Step = Callable[[Registers, "blocks.Running"], int]
+Step = Callable[[Registers, "Running"], int]
 Operation = Callable[[int, int], int]
 
 
@@ -47,11 +48,6 @@ def number(x: Registers, register: int) -> int:
     if isinstance(value, Sum):
         value = x[register] = value.look()
     return value
-
-
-def CALL(x: Registers, run: blocks.Running) -> int:
-    """Stands in the place of the step of an ECALL, and is never called."""
-    raise NotImplementedError
 
 
 ALL = 2**32 - 1
@@ -151,132 +147,116 @@ class Code:
         self.steps: dict[int, Step] = {}
 
     def at(self, pc: int) -> Step:
-        step = self.steps.get(pc)
-        if step is None:
-            word = self.guest.word(pc)
-            step = self.steps[pc] = raising(2) if word is None else self.decoded(rv32im.decode(word), pc)
-        return step
+        if pc not in self.steps:
+            self.steps[pc] = self.decoded(self.guest.word(pc), pc)
+        return self.steps[pc]
 
-    def decoded(self, what: rv32im.Instruction | None, pc: int) -> Step:
-        """The step of an instruction at an address."""
+    def decoded(self, word: int | None, pc: int) -> Step:
+        """The step of a word at an address."""
+        what = None if word is None else rv32im.decode(word)
         if what is None:
-            return raising(1)
+            return partial(raising, 2 if word is None else 1)
         name, to, a, b, value = what
         after = pc + 4 & MASK
         if not to and name in (*model.OPERATIONS, *model.IMMEDIATES):
-            return constant(0, 0, after)
+            return partial(constant, 0, 0, after)
         if name in ("lui", "auipc"):
-            return constant(to, value + (pc if name == "auipc" else 0) & MASK, after)
+            return partial(constant, to, value + (pc if name == "auipc" else 0) & MASK, after)
         if name == "jal":
-            return raising(3) if value % 4 else constant(to, after, pc + value & MASK)
+            return partial(raising, 3) if value % 4 else partial(constant, to, after, pc + value & MASK)
         if name == "jalr":
-            return indirect(to, a, value, after, self.known if is_return(what) else None)
+            return partial(indirect, to, a, value, after, self.known if is_return(what) else None)
         if name in model.COMPARISONS:
-            return branch(model.COMPARISONS[name], a, b, pc + value & MASK, after)
+            return partial(branch, model.COMPARISONS[name], a, b, pc + value & MASK, after)
         if name in rv32im.WIDTHS:
             width = rv32im.WIDTHS[name]
             if name[0] == "s":
-                return store(a, b, value, width, after)
-            return load(to, a, value, width, name in model.SIGNED, after)
+                return partial(store, a, b, value, width, after)
+            return partial(load, to, a, value, width, name in model.SIGNED, after)
         if name in ("add", "sub"):
             a, b = (b, a) if name == "add" and to == b else (a, b)
-            return sum_of(to, a, b, 1 if name == "add" else -1, after)
+            return partial(sum_of, to, a, b, 1 if name == "add" else -1, after)
         if name == "addi":
-            return added(to, a, value, after)
+            return partial(added, to, a, value, after)
         if name in model.IMMEDIATES:
-            return with_immediate(to, a, value, model.OPERATIONS[model.IMMEDIATES[name]], after)
+            return partial(with_immediate, model.OPERATIONS[model.IMMEDIATES[name]], to, a, value, after)
         if name in model.OPERATIONS:
-            return with_registers(to, a, b, model.OPERATIONS[name], after)
-        return {"ecall": CALL, "ebreak": raising(8), "fence": constant(0, 0, after)}[name]
+            return partial(with_registers, model.OPERATIONS[name], to, a, b, after)
+        if name == "ecall":
+            return CALL
+        return partial(raising, 8) if name == "ebreak" else partial(constant, 0, 0, after)
 
 
-def raising(number: int) -> Step:
-    def step(x: Registers, run: blocks.Running) -> int:
-        raise Fault(number)
-    return step
+def raising(number: int, x: Registers, run: Running) -> int:
+    raise Fault(number)
 
 
-def constant(to: int, value: int, after: int) -> Step:
-    def step(x: Registers, run: blocks.Running) -> int:
-        if to:
-            x[to] = value
-        return after
-    return step
+def constant(to: int, value: int, after: int, x: Registers, run: Running) -> int:
+    if to:
+        x[to] = value
+    return after
 
 
-def indirect(to: int, a: int, value: int, after: int, known: Live | None) -> Step:
-    """A jump; `known` is what a return must go by."""
-    def step(x: Registers, run: blocks.Running) -> int:
-        target = number(x, a) + value & MASK - 1
-        if target & 2:
+def indirect(to: int, a: int, value: int, after: int, known: Live | None, x: Registers, _: Running) -> int:
+    """A jump; `known` is what a return goes by."""
+    target = number(x, a) + value & MASK - 1
+    if target & 2:
+        raise Fault(3)
+    if to:
+        x[to] = after
+    if known:
+        known.expect(target)
+    return target
+
+
+def branch(compared: Operation, a: int, b: int, target: int, after: int, x: Registers, run: Running) -> int:
+    if compared(number(x, a), number(x, b)):
+        if target % 4:
             raise Fault(3)
-        if to:
-            x[to] = after
-        if known:
-            known.expect(target)
         return target
-    return step
+    return after
 
 
-def branch(compared: Callable[[int, int], bool], a: int, b: int, target: int, after: int) -> Step:
-    def step(x: Registers, run: blocks.Running) -> int:
-        if compared(number(x, a), number(x, b)):
-            if target % 4:
-                raise Fault(3)
-            return target
-        return after
-    return step
+def load(to: int, a: int, at: int, width: int, extend: bool, after: int, x: Registers, run: Running) -> int:
+    value = run.load(number(x, a) + at & MASK, width, extend)
+    if to:
+        x[to] = value
+    return after
 
 
-def load(to: int, a: int, offset: int, width: int, extend: bool, after: int) -> Step:
-    def step(x: Registers, run: blocks.Running) -> int:
-        value = run.load(number(x, a) + offset & MASK, width, extend)
-        if to:
-            x[to] = value
-        return after
-    return step
+def store(a: int, b: int, offset: int, width: int, after: int, x: Registers, run: Running) -> int:
+    run.store(number(x, a) + offset & MASK, width, x[b])
+    return after
 
 
-def store(a: int, b: int, offset: int, width: int, after: int) -> Step:
-    def step(x: Registers, run: blocks.Running) -> int:
-        run.store(number(x, a) + offset & MASK, width, x[b])
-        return after
-    return step
+def added(to: int, a: int, value: int, after: int, x: Registers, run: Running) -> int:
+    before = x[a]
+    x[to] = before.plus(value) if isinstance(before, Sum) else before + value & MASK
+    return after
 
 
-def added(to: int, a: int, value: int, after: int) -> Step:
-    def step(x: Registers, run: blocks.Running) -> int:
-        before = x[a]
-        x[to] = before.plus(value) if isinstance(before, Sum) else before + value & MASK
-        return after
-    return step
-
-
-def sum_of(to: int, a: int, b: int, sign: int, after: int) -> Step:
+def sum_of(to: int, a: int, b: int, sign: int, after: int, x: Registers, run: Running) -> int:
     """x[to] = x[a] + sign * x[b]. Of two Sums the second is looked at."""
-    def step(x: Registers, run: blocks.Running) -> int:
-        first, second = x[a], x[b]
-        if isinstance(second, Sum):
-            if not isinstance(first, Sum) and sign == 1:
-                first, second = second, first
-            else:
-                second = number(x, b)
-                first = x[a]  # which may be the same register
-        assert not isinstance(second, Sum)
-        x[to] = first.plus(sign * second) if isinstance(first, Sum) else first + sign * second & MASK
-        return after
-    return step
+    first, second = x[a], x[b]
+    if isinstance(second, Sum):
+        if not isinstance(first, Sum) and sign == 1:
+            first, second = second, first
+        else:
+            second = number(x, b)
+            first = x[a]  # which may be the same register
+    assert not isinstance(second, Sum)
+    x[to] = first.plus(sign * second) if isinstance(first, Sum) else first + sign * second & MASK
+    return after
 
 
-def with_immediate(to: int, a: int, value: int, operation: Operation, after: int) -> Step:
-    def step(x: Registers, run: blocks.Running) -> int:
-        x[to] = operation(number(x, a), value) & MASK
-        return after
-    return step
+def with_immediate(of: Operation, to: int, a: int, value: int, after: int, x: Registers, _: Running) -> int:
+    x[to] = of(number(x, a), value) & MASK
+    return after
 
 
-def with_registers(to: int, a: int, b: int, operation: Operation, after: int) -> Step:
-    def step(x: Registers, run: blocks.Running) -> int:
-        x[to] = operation(number(x, a), number(x, b)) & MASK
-        return after
-    return step
+def with_registers(of: Operation, to: int, a: int, b: int, after: int, x: Registers, _: Running) -> int:
+    x[to] = of(number(x, a), number(x, b)) & MASK
+    return after
+
+
+CALL: Step = partial(raising, 0)  # stands in the place of the step of an ECALL, and is never called
