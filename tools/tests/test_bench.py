@@ -60,7 +60,8 @@ exec {ROOT}/workbench run - "$@" --seed 1 $orders 2>/dev/null
                                    "Other node", "Seconds"])
         words = ["`run`", *(f"`nodes {nodes} {bound}`" for nodes in (1, 2) for bound in (0, 4, 256))]
         self.assertEqual([row[:2] for row in rows[2:]], [[name, word] for name in ("counter", "hot-lock") for word in words])
-        swept = self.well("sweep --workers 2 --batch 8 --nodes 0,1,2 --bound 0,4,256 --runs 1 --fuel 200", elf("counter"), by=by)
+        asked = "sweep --workers 2 --batch 8 --nodes 0,1,2 --bound 0,4,256 --runs 1 --fuel 200"
+        swept = self.well(asked, elf("counter"), by=by)
         names = "taken", "adopted", "granted", "changes", "changes_of_node", "other_node"
         self.assertEqual([row[2:8] for row in rows[2:9]],
                          [[row[name] for name in names] for row in csv.DictReader(swept.splitlines())])

@@ -272,7 +272,7 @@ class Pictures(Case):
     def test_a_guest_without_symbols_and_another_guest(self) -> None:
         self.assertEqual(*(run("draw -", *words, given=WAITS).stdout for words in ((), ("--guest", GUEST))))
         done = run("draw", "-", "--guest", elf("philosophers"), given=WAITS)
-        self.one_line(done, 3, "the report is of another guest: it has 2 threads and 1 locks, and the guest 5 and 6")
+        self.one_line(done, 3, "report is of another guest: it has 2 threads and 1 locks, and the guest 5 and 6")
 
     def test_each_is_well_formed(self) -> None:
         for name in NAMES:

@@ -260,7 +260,7 @@ class Use(Case):
         done = run("explore", elf("stale"), "--all")
         self.one_line(done, 0)
         self.assertRegex(done.stderr.decode(), r"^workbench explore: some \d+ states are expected, .*; at most 1,000,000 are searched")
-        for text in "every interleaving: 2 outcomes, ", "word 0 (00100000): 33 (0x21)", "word 0 (00100000): 73 (0x49)":
+        for text in "interleaving: 2 outcomes, ", "word 0 (00100000): 33 (0x21)", "word 0 (00100000): 73 (0x49)":
             self.says(text, done)
         self.assertIn(f"```\n{done.stdout.decode()}```\n", (ROOT / "docs/EXPLORE.md").read_text())
 
@@ -387,7 +387,7 @@ class Use(Case):
         """Thread 0 faults where thread 1 was there before it."""
         one = made.code(f"{BEGIN} LOCK 0; lw 7 5 0; beq 7 0 8; ebreak; UNLOCK 0; EXIT")
         other = made.code(f"{BEGIN} LOCK 0; sw 17 5 0; UNLOCK 0; EXIT")
-        text = run("explore", saved("fault.elf", built(one + other, (0, len(one)), 1)), "--all").stdout.decode()
+        text = run("explore --all", saved("fault.elf", built(one + other, (0, len(one)), 1))).stdout.decode()
         self.assertIn("every interleaving: 2 outcomes, ", text)
         self.assertLess(text.index("thread 0 ends: fault 8"), text.index("thread 0 ends: exit"))
 

@@ -108,8 +108,8 @@ class OnPaper(Case):
 
     def finished(self, code: tuple[int, ...], entries: tuple[int, ...], guards: int, lines: str) -> str:
         """The report of a history by as many workers as threads."""
-        return self.well("finish", saved("paper.elf", built(code, entries, guards)), "--workers", f"{len(entries)}",
-                         "--batch", "4", "--fuel", "100", given=lines)
+        words = f"finish --workers {len(entries)} --batch 4 --fuel 100"
+        return self.well(words, saved("paper.elf", built(code, entries, guards)), given=lines)
 
     def test_nested_delegation(self) -> None:
         """Thread 2 is adopted with lock 0 by worker 1, shipped with it to lock 1, and adopted by worker 0."""
@@ -279,7 +279,8 @@ block 3 thread 1 turns 7 held 0 kind taken worker 1 pc 0010003c end unlocked 0
                             (lines.replace(section, "turns 8 held 0 kind on worker 9"), "4 4 Block"),
                             (lines.replace(adopted, "kind on worker 9"), "4 5 Kind"),
                             (lines.replace(adopted, "kind taken worker 9"), "4 6 Worker")):
-            self.assertEqual(answer("replay", built(ONE, (0, 0), 1), (2, 100, 4), wrong), (6, f"rejected {said}\n"))
+            answered = answer("replay", built(ONE, (0, 0), 1), (2, 100, 4), wrong)
+            self.assertEqual(answered, (6, f"rejected {said}\n"))
 
     def test_a_profile_and_the_batch_rule(self) -> None:
         """The rule as it is written: a thread may be handed what it released itself."""

@@ -125,7 +125,8 @@ class WrongUses(Case):
     def test_standard_input_is_a_folder_or_closed(self) -> None:
         for tool in self.TOOLS:
             for how in "<&-", "< /":
-                self.one_line(process("sh", "-c", f'"$0" "$@" {how}', ROOT / "workbench", tool, *self.WORDS[tool], "-"), 2)
+                words = f'"$0" "$@" {how}', ROOT / "workbench", tool, *self.WORDS[tool], "-"
+                self.one_line(process("sh", "-c", *words), 2)
 
     def test_output_that_fails(self) -> None:
         _, text = history("sleepers", 4, 8, 1)
@@ -156,7 +157,8 @@ class WrongUses(Case):
     def test_numbers_that_the_program_refuses(self) -> None:
         for words in ("workers 0 fuel 9 batch 0", "workers 9 fuel 9 batch 0", "workers 1 fuel 65537 batch 0",
                       "workers 1 fuel 9 batch 257", "workers 01 fuel 9 batch 0", "workers 1 fuel +9 batch 0"):
-            self.one_line(run("judge", elf("first"), given=f"tclocks 1\nguest threads 2 guards 1\nrun {words}\n"), 3)
+            text = f"tclocks 1\nguest threads 2 guards 1\nrun {words}\n"
+            self.one_line(run("judge", elf("first"), given=text), 3)
 
     def test_noise(self) -> None:
         for tool in self.TOOLS:

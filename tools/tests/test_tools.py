@@ -24,13 +24,14 @@ class Explanations(Case):
         """Of files that were cut or changed, and of notes without room."""
         file, full = (GUESTS / "exit.elf").read_bytes(), built(ONE, 17 * (0,), 32)
         self.assertEqual((len(file), guestfile.refusal(full)), (92, None))
+        cut = (0, 1), (51, 1), (52, 7), (83, 7), (84, 9), (91, 9)
         changed = ((0, b"\0", 2), (4, b"\2", 3), (5, b"\2", 3), (6, b"\2", 3), (16, b"\3\0", 4), (18, b"\4\0", 5),
-                   (36, b"\1", 6), (20, b"\2", 7), (42, b"\x21", 7), (44, b"\0", 7), (52, b"\2", 8), (72, b"\1", 9),
-                   (76, b"\7", 11), (24, b"\1", 13))
+                   (36, b"\1", 6), (20, b"\2", 7), (42, b"\x21", 7), (44, b"\0", 7), (52, b"\2", 8),
+                   (72, b"\1", 9), (76, b"\7", 11), (24, b"\1", 13))
         for other, number in (
-                *((file[:size], number) for size, number in ((0, 1), (51, 1), (52, 7), (83, 7), (84, 9), (91, 9))),
+                *((file[:size], number) for size, number in cut), (file + bytes(1048577 - 92), 0),
                 *((file[:at] + value + file[at + len(value):], number) for at, value, number in changed),
-                (file + bytes(1048577 - 92), 0), *((full[:168] + value + full[169:], 12) for value in (b"\1", b"\3")),
+                *((full[:168] + value + full[169:], 12) for value in (b"\1", b"\3")),
                 (built(ONE, 33 * (0,), 1), 12), (built(ONE, (0,), 33), 12)):
             self.assertEqual(getattr(guestfile.refusal(other), "number", None), number, other[:200])
 
@@ -54,19 +55,21 @@ class Explanations(Case):
 
     def test_words(self) -> None:
         for words, part in (
-                ("run 0 10 1", "workers"), ("run 2 010 1", "leading zero"), ("run 1 65537 0", "65537"), ("run 1 1 257", "257"),
-                ("run", "workers, fuel, batch"), ("", "no words"), ("gen 0", "rounds is 0"), ("gen 2001", "1 to 2000"),
-                ("demo 5", "rounds, workers"), ("demo 5 9", "1 to 8"), ("nodes 3 4 2 2000 8", "3 nodes and 2 workers"),
-                ("nodes 1 257 1 1 0", "bound is 257"), ("nodes 1 1 0", "nodes, bound, workers"), ("stop", "stop"),
-                ("replay 92 1 100", "size, workers, fuel, batch"), ("replay 0 1 100 0", "size is 0"), ("run 1 -1 0", "-1"),
-                ("profile 1048577 1 1 0", "1 to 1048576")):
+                ("run 0 10 1", "workers"), ("run 2 010 1", "leading zero"), ("run 1 65537 0", "65537"),
+                ("run", "workers, fuel, batch"), ("", "no words"), ("gen 0", "rounds is 0"), ("stop", "stop"),
+                ("demo 5", "rounds, workers"), ("nodes 3 4 2 2000 8", "3 nodes and 2 workers"),
+                ("nodes 1 257 1 1 0", "bound is 257"), ("nodes 1 1 0", "nodes, bound, workers"),
+                ("replay 92 1 100", "size, workers, fuel, batch"), ("replay 0 1 100 0", "size is 0"),
+                ("run 1 -1 0", "-1"), ("run 1 1 257", "257"), ("profile 1048577 1 1 0", "1 to 1048576"),
+                ("gen 2001", "1 to 2000"), ("demo 5 9", "1 to 8")):
             self.assertIn(part, self.well("explain", elf("first"), "--words", *words.split()))
 
     def test_a_rejected_history(self) -> None:
-        for number, part in enumerate(("no block line", "no such thread", "another one has", "its turns", "batch limit",
-                                       "no such worker", "has not ended"), 1):
+        parts = "no block line|no such thread|another one has|its turns|batch limit|no such worker|has not ended"
+        for number, part in enumerate(parts.split("|"), 1):
             line = f"rejected 12 {number} {limits.REASONS[number - 1]}\n"
-            self.assertRegex(self.well("explain", elf("first"), "-", given=line), f"line 12 of the history: .*{part}")
+            said = self.well("explain", elf("first"), "-", given=line)
+            self.assertRegex(said, f"line 12 of the history: .*{part}")
 
 
 class Tables(Case):
@@ -89,7 +92,7 @@ class Tables(Case):
         code = (*call(1, 0), *call(1, 1), *call(2, 0), *call(2, 1), *EXIT)
         text = run("simulate", saved("paper.elf", built(code, (0,), 2)), "1", "100", "4").stdout
         lock = "lock {} sections 1 taken 1 adopted 0 granted 0 longest 0 changes 0 home 0\n"
-        self.assertEqual(self.well("summary", "-", "--profile", given=text), "tclocks profile 1\n" + lock.format(0)
+        self.assertEqual(self.well("summary - --profile", given=text), "tclocks profile 1\n" + lock.format(0)
                          + lock.format(1) + "thread 0 blocks 5 turns 14 moves 0\nend\n")
         counts = json.loads(run("summary", "-", "--json", given=text).stdout)
         for lock in counts["by_lock"]:
@@ -136,10 +139,12 @@ class Tables(Case):
     def test_each_tool_on_each_guest(self) -> None:
         for name in NAMES:
             path = saved(f"{name}.txt", run("simulate", elf(name), "3", "600", "2", "--seed", "5").stdout)
-            for tool, *words in (("summary", path), ("draw", path), ("draw --text", path), ("draw --trace", path),
-                                 ("explain", elf(name), path), ("explain", elf(name)), ("judge", elf(name), path),
-                                 ("finish", elf(name), path), ("explore --runs 2 --model --fuel 600", elf(name))):
-                self.well(tool, *words)
+            for tool in "summary", "draw", "draw --text", "draw --trace":
+                self.well(tool, path)
+            for tool in "explain", "judge", "finish":
+                self.well(tool, elf(name), path)
+            for tool in "explain", "explore --runs 2 --model --fuel 600":
+                self.well(tool, elf(name))
 
     def test_explore_keeps_a_history_of_each_outcome(self) -> None:
         folder = TEMPORARY / "outcomes"

@@ -8,7 +8,7 @@ from . import tool
 
 
 class Subcommand(NamedTuple):
-    """A tool: its group, its words, the module that has its main (or what else runs it), what it does in a line."""
+    """A tool: its group, its words, the module of its main (or what else runs it), what it does in a line."""
     group: str
     name: str
     module: str

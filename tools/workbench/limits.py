@@ -20,8 +20,8 @@ HISTORY_BYTES = 268435456  # of the history behind a guest's file
 REJECTED = 6  # the program's status where a history is rejected, and why it is: of several reasons the first
 REASONS = ("Text", "Thread", "Owner", "Block", "Kind", "Worker", "Incomplete")
 # The names of a file's refusals, by their numbers.
-REFUSALS = ("TooLarge", "TooShort", "BadMagic", "NotElf32Little", "NotExec", "NotRiscv", "BadFlags", "BadHeader",
-            "Dynamic", "BadLoad", "Overlap", "WritableCode", "BadNote", "BadEntry", "BadGuard")
+REFUSALS = ("TooLarge", "TooShort", "BadMagic", "NotElf32Little", "NotExec", "NotRiscv", "BadFlags",
+            "BadHeader", "Dynamic", "BadLoad", "Overlap", "WritableCode", "BadNote", "BadEntry", "BadGuard")
 
 # The least and the most of each number that stands behind the program's words.
 RUN = {"workers": (1, 8), "fuel": (1, 65536), "batch": (0, 256)}

@@ -37,7 +37,7 @@ def again(body: list[int], behind: str = "jal 0") -> list[int]:
     return body + code(f"{behind} {-4 * len(body)}")
 
 
-# The guests that run some code again and again: what they run once before, that code, and their number of locks.
+# The guests that run some code again and again: what they run once before, that code, and how many locks.
 LOOPS = {
     # Arithmetic without locks, one block for each 4,096 turns.
     "arithmetic": ("", "addi 5 5 1; slli 6 5 3; xor 7 7 6; add 8 8 7; srli 9 8 5; sub 12 9 5; and 13 12 8; "

@@ -111,6 +111,6 @@ def main(words: list[str]) -> int:
     for folder, names in ("bench/", guests.GUESTS), ("guests/", FACTS):
         log, text = ({name: ratios[name][which] for name in names if name in ratios} for which in (0, 1))
         if log:
-            print(f"\nOf {report.several(len(log), 'guest')} of {folder}, the program's processor seconds in those of "
-                  f"the peer: {table.spread(log)}; in those of the peer with text: {table.spread(text)}.")
+            print(f"\nOf {report.several(len(log), 'guest')} of {folder}, the program's processor seconds in those "
+                  f"of the peer: {table.spread(log)}; in those of the peer with text: {table.spread(text)}.")
     return to.end()

@@ -28,9 +28,10 @@ class Took(NamedTuple):
     peak: int
 
 
-def words(bench: str, doc: str | None, known: Iterable[str], usual: str, *first: str, **numbers: Any) -> tool.Words:
-    """The parser of a bench's words: guests, the program, where the raw results go; and numbers of a run, as -b or -f,
-    or -r for how many runs there are. Of each is given what is usual, a list where it may be several, as 1,4, what it
+def words(bench: str, doc: str | None, known: Iterable[str], usual: str, *first: str,
+          **numbers: Any) -> tool.Words:
+    """The parser of a bench's words: guests, the program, where the raw results go; and numbers of a run, as -b or
+    -f, or -r for how many runs there are: of each what is usual (a list where it may be several, as 1,4), what it
     says, and another least one."""
     parser = tool.words(f"bench {bench}", doc, *first)
     parser.add_argument("guests", metavar="GUEST", nargs="*", help=f"{', '.join(known)}; {usual} when left out")

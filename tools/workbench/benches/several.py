@@ -127,15 +127,17 @@ def measure(name: str, asked: Namespace, clock: Path | None, loop: Path | None, 
     # What the most threads take more than one for so many additions to one word.
     shared, one = (taken(asked, [ran((threads, blocks), path=clock) for _ in range(asked.runs)], "busy")
                    for threads in (asked.workers[-1], 1)) if clock else (0, 0)
-    to.row([name, *seconds, *busy, *ratios, shared - one if clock else None, of_loops(asked, loops) if loop else None,
-            shared_loop(asked, seconds[0], loops, loop) if loop else None, f"{len(runs[asked.workers[-1]])} of {made}"],
+    of_loop: Any = (of_loops(asked, loops), shared_loop(asked, seconds[0], loops, loop)) if loop else (None, None)
+    to.row([name, *seconds, *busy, *ratios, shared - one if clock else None, *of_loop,
+            f"{len(runs[asked.workers[-1]])} of {made}"],
            {workers: [took for took, _ in found] for workers, found in runs.items()})
     return ratios
 
 
 def main(words: list[str]) -> None:
-    parser = process.words("several", __doc__, guests.GUESTS, ", ".join(USUAL), workers=([1, 2, 4], "1 to 8 each"),
-                           batch=(8, "batch limit"), fuel=(limits.RUN["fuel"][1], "of each thread"), runs=(9, "of each"))
+    parser = process.words(
+        "several", __doc__, guests.GUESTS, ", ".join(USUAL), workers=([1, 2, 4], "1 to 8 each"),
+        batch=(8, "batch limit"), fuel=(limits.RUN["fuel"][1], "of each thread"), runs=(9, "of each"))
     parser.add_argument("-q", dest="quiet", metavar="NUMBER", type=float,
                         help="count only rounds before and behind which the number of the column Loop is at most this, as 1.1")
     parser.add_argument("-e", dest="even", action="store_true",

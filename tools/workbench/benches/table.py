@@ -41,8 +41,8 @@ class Table:
         print("\n".join(head(self.columns)), flush=True)
 
     def fill(self, what: str, pieces: Sequence[Any], measure: Callable[..., Any]) -> list[tuple[Any, Any]]:
-        """Has each piece of work measured, which gives the table its rows. Answers the pieces with what came of
-        them; of one that fails a line says why, under its guest's name."""
+        """Has each piece of work measured, which gives the table its rows. Answers the pieces with what came
+        of them; of one that fails a line says why, under its guest's name."""
         found = []
         with progress.Progress(f"bench {self.bench}", what, len(pieces)) as self.shown:
             for piece in self.shown.each(pieces):

@@ -20,8 +20,8 @@ OWN = "counter", "bank", "buffer", "philosophers"  # of guests/
 FUEL, BATCH = 20000, 8
 GIVEN = {"all": None, "one": 1, "none": 0}  # threads of the host beside the first one
 BLOCK = re.compile(rb"(?m)^block .* kind (\w+) worker (\d+) ")
-COLUMNS = (("Guest",), ("Workers",), ("Threads",), ("Runs",), ("By several",), ("With adopted",), ("Median ms", ".1f"),
-           ("Least ms", ".1f"))
+COLUMNS = (("Guest",), ("Workers",), ("Threads",), ("Runs",), ("By several",), ("With adopted",),
+           ("Median ms", ".1f"), ("Least ms", ".1f"))
 
 
 class Ran(NamedTuple):
@@ -89,7 +89,7 @@ def main(words: list[str]) -> None:
         found = to.fill("of guests and workers", lines, lambda line: measure(host, line[0], line[1], asked.runs, to))
     for kind in GIVEN if found else ():
         several, adopted, times = zip(*(one for _, ran in found for one in ran[kind]))
-        print(f"\nThreads of the host: {kind}. All of {len(times)} runs ended with status 0; in {sum(several)} two "
-              f"workers or more ran blocks, in {sum(adopted)} a section was adopted; median "
+        print(f"\nThreads of the host: {kind}. All of {len(times)} runs ended with status 0; in {sum(several)} "
+              f"two workers or more ran blocks, in {sum(adopted)} a section was adopted; median "
               f"{statistics.median(times):.1f} milliseconds, least {min(times):.1f}.")
     to.end()

@@ -148,8 +148,8 @@ class Picture:
 
     def svg(self, locks: int) -> str:
         patterns = "".join(  # which tell locks of one colour apart
-            f'<pattern id="p{lock}" width="6" height="6" patternUnits="userSpaceOnUse"><rect width="6" height="6" '
-            f'fill="{COLOURS[lock % 7]}"/>{PATTERNS[lock // 7]}</pattern>' for lock in range(len(COLOURS), locks))
+            f'<pattern id="p{lock}" width="6" height="6" patternUnits="userSpaceOnUse"><rect width="6" '
+            f'height="6" fill="{COLOURS[lock % 7]}"/>{PATTERNS[lock // 7]}</pattern>' for lock in range(7, locks))
         parts = [f"<defs>{patterns}</defs>", *self.parts]
         return document(self.width, self.height + 10, STYLE, parts, self.title)
 

@@ -140,7 +140,7 @@ class Running:
         return None
 
     def inside(self, address: int, width: int, fault: int) -> tuple[Any, int]:
-        """What an address lies in, and where: a held lock, bytes that aren't writable, None for own memory."""
+        """What an address lies in, and where: a held lock, bytes not to be written, None for own memory."""
         wrong, inside, at = self.guest.places.at(address, width)
         if wrong is not None:
             raise Fault(fault if wrong == 4 else wrong)

@@ -1,4 +1,4 @@
-"""A guest's instructions, decoded once: functions whose operands are bound, of the registers and of the running
+"""A guest's instructions, decoded once: functions whose operands are bound, of the registers and the running
 thread, that answer the next program counter, or raise Fault and change nothing.
 
 They do what model.py does, only faster; tools/tests compares the two block by block.

@@ -85,8 +85,8 @@ def past_end(end: int, file: bytes) -> str:
 def of_content(file: bytes, header: elf32.Header, number: int) -> Finding:
     """Whether a header's content ends behind the file."""
     end = header.offset + header.file_size
-    return end > len(file), number, (f"{header}: p_offset {header.offset} + p_filesz {header.file_size} is {end}, "
-                                     f"{past_end(end, file)}")
+    return end > len(file), number, (f"{header}: p_offset {header.offset} + p_filesz {header.file_size} is "
+                                     f"{end}, {past_end(end, file)}")
 
 
 def of_loads(file: bytes, loads: list[elf32.Header]) -> Iterator[Finding]:
@@ -102,8 +102,9 @@ def of_loads(file: bytes, loads: list[elf32.Header]) -> Iterator[Finding]:
 
 def of_ranges(ranges: list[elf32.Header]) -> Iterator[Finding]:
     for i, one in enumerate(ranges):
-        for name, other in [*((f" and {header}", header.range) for header in ranges[i + 1:]), (", and the stack", STACK)]:
-            yield meet(one.range, other), 10, f"{one} has {span(one.range)}{name} {span(other)}"
+        for other in ranges[i + 1:]:
+            yield meet(one.range, other.range), 10, f"{one} has {span(one.range)} and {other} {span(other.range)}"
+        yield meet(one.range, STACK), 10, f"{one} has {span(one.range)}, and the stack {span(STACK)}"
     for one in ranges:
         yield one.flags & 3 == 3, 11, (f"{one} at {span(one.range)} has p_flags {one.flags}: both "
                                        "writable (2) and executable (1)")
@@ -126,8 +127,8 @@ def of_notes(file: bytes, headers: list[elf32.Header]) -> Generator[Finding, Non
         content = header.content(file)
         for note in elf32.notes(content):
             yield note.end > len(content), 12, (
-                f"{header}: the note at byte {note.at} has a name of {note.name_size} and a descriptor of {note.size} "
-                f"bytes and ends at {note.end}; the segment has {len(content)}")
+                f"{header}: the note at byte {note.at} has a name of {note.name_size} and a descriptor of "
+                f"{note.size} bytes and ends at {note.end}; the segment has {len(content)}")
             yield note.is_threads and found, 12, f"{header}: a second note TCLOCKS"
             if note.is_threads:
                 found = yield from of_descriptor(note.descriptor, header)
@@ -144,8 +145,8 @@ def of_descriptor(content: bytes, header: elf32.Header) -> Generator[Finding, No
     yield not 1 <= threads <= most_threads, 12, f"{said} {threads} threads, not 1 to {most_threads}"
     yield guards > most_guards, 12, f"{said} {guards} guards, not 0 to {most_guards}"
     wanted = 12 + 8 * threads + 8 * guards
-    yield size != wanted, 12, (f"{header}: {threads} threads and {guards} guards are {wanted} bytes of descriptor, "
-                               f"and it has {size}")
+    yield size != wanted, 12, (f"{header}: {threads} threads and {guards} guards are {wanted} bytes of "
+                               f"descriptor, and it has {size}")
     return pairs[:threads], pairs[threads:]
 
 
@@ -160,8 +161,8 @@ def of_entries(entries: Pairs, ranges: list[elf32.Header]) -> Iterator[Finding]:
 def of_guards(guards: Pairs, ranges: list[elf32.Header]) -> Iterator[Finding]:
     (least, most), spans = limits.GUARD_BYTES, [range(start, start + length) for start, length in guards]
     for number, (start, length) in enumerate(guards):
-        yield start % 4 or length % 4, 14, (f"guard {number} starts at {start:08x} and has {length} bytes: both must "
-                                            "be multiples of 4")
+        yield start % 4 or length % 4, 14, (f"guard {number} starts at {start:08x} and has {length} bytes: both "
+                                            "must be multiples of 4")
         yield not least <= length <= most, 14, f"guard {number} has {length} bytes, not {least} to {most}"
         yield not is_inside(spans[number], ranges, 2), 14, (
             f"guard {number} has {span(spans[number])}, which isn't in one writable range ({ranges_text(ranges, 2)})")

@@ -39,8 +39,8 @@ COMPARISONS: dict[str, Operation] = {
 OPERATIONS: dict[str, Operation] = {
     "add": operator.add, "sub": operator.sub, "xor": operator.xor, "or": operator.or_, "and": operator.and_,
     "slt": of_signed(operator.lt), "sltu": lambda a, b: a % 2**32 < b % 2**32,
-    "sll": lambda a, b: a << (b & 31), "srl": lambda a, b: a >> (b & 31), "sra": lambda a, b: signed(a) >> (b & 31),
-    "mul": operator.mul, "mulh": lambda a, b: signed(a) * signed(b) >> 32,
+    "sll": lambda a, b: a << (b & 31), "srl": lambda a, b: a >> (b & 31), "mul": operator.mul,
+    "sra": lambda a, b: signed(a) >> (b & 31), "mulh": lambda a, b: signed(a) * signed(b) >> 32,
     "mulhsu": lambda a, b: signed(a) * b >> 32, "mulhu": lambda a, b: a * b >> 32,
     "div": of_signed(quotient), "divu": quotient, "rem": of_signed(remainder), "remu": remainder}
 IMMEDIATES = {"sltiu": "sltu", **{f"{name}i": name for name in ("add", "sll", "slt", "xor", "srl", "sra", "or", "and")}}
@@ -253,7 +253,7 @@ class Machine:
 
 
 def wrong_call(call: int, value: int, held: Collection[int], locks: int) -> int | None:
-    """The fault of a guest call with a value, where there are so many locks and the thread holds some, or None."""
+    """The fault of a guest call with a value by a thread that holds some of so many locks, or None."""
     if call not in limits.CALLS or (call == limits.SLEEP and value > limits.SLEPT):
         return 9
     if call in (limits.SLEEP, limits.EXIT):

@@ -141,8 +141,8 @@ def words_of(parser: tool.Words) -> tool.Words:
     parser.number("--thread", (0, 31), "the blocks of this thread")
     parser.number("--lock", (0, 31), "the blocks that hold this lock or end before its LOCK")
     parser.add_argument("--block", metavar="A[-B]", type=stamps, help="this block, or these")
-    parser.number("--trace", (0, 10**9), "this block's instructions with their registers; alone, of this block only",
-                  metavar="BLOCK")
+    parser.number("--trace", (0, 10**9), metavar="BLOCK",
+                  says="this block's instructions with their registers; alone, of this block only")
     parser.add_argument("--contexts", action="store_true",
                         help="what a context carries where another worker goes on with it, and where the locks' bytes go")
     parser.add_argument("--words", nargs=argparse.REMAINDER, metavar="WORD",

@@ -55,8 +55,8 @@ class Line:
             if parts.get(name, 0) >= count:
                 raise report.Wrong(f"{where}: there is no {name} {parts[name]}, but {name}s 0 to {count - 1}")
         if self.stamp is not None and int(self.stamp) != run.count:
-            raise report.Wrong(f"{where}: its stamp is {self.stamp} (without stamps the blocks are numbered in "
-                               "their order)")
+            raise report.Wrong(f"{where}: its stamp is {self.stamp} (without stamps the blocks are numbered "
+                               "in their order)")
         if parts.get("kind", "on") not in limits.KINDS:
             raise report.Wrong(f"{where}: there is no kind {parts['kind']!r}")
 

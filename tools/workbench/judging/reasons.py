@@ -90,9 +90,11 @@ def region(file: guestfile.GuestFile, address: int) -> str:
 
 def fault(number: int, file: guestfile.GuestFile, thread: model.Thread, held: tuple[int, ...]) -> str:
     """Why a fault with this number came, but for 2."""
-    call, value, locks, word = thread.x[17], thread.x[10], len(file.guest.guards), file.guest.word(thread.pc) or 0
+    call, value, locks = thread.x[17], thread.x[10], len(file.guest.guards)
+    word = file.guest.word(thread.pc) or 0
     if number == 1:
-        hint = ("the word 0 is none" if word == 0 else "its low bits are those of compressed code (C)" if word & 3 != 3
+        hint = ("the word 0 is none" if word == 0
+                else "its low bits are those of compressed code (C)" if word & 3 != 3
                 else EXTENSIONS.get(word & 0x7F, "no row of RV32IM gives it"))
         return f"the word {word:08x} is no instruction: {hint}"
     if number == 3:

@@ -47,7 +47,7 @@ class Waits:
         self.sections = self.sum = self.longest = 0
 
     def add(self, block: report.Block, before: report.Block | None) -> None:
-        """Of a section: the blocks between its first and its thread's block before, which came to the LOCK."""
+        """Of a section: the blocks between it and its thread's block before, which came to the LOCK."""
         wait = 0 if before is None else block.stamp - before.stamp - 1
         self.sections += 1
         self.sum += wait

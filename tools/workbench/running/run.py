@@ -25,8 +25,8 @@ def by_model(file: bytes, asked: Namespace, why: str | None) -> None:
         raise tool.Trouble(tool.WRONG, ENDS[tool.WRONG])
     tool.note("run", "by the model" + ("" if asked.workers == 1 else f", in the interleaving of seed {asked.seed or 0}")
               + (f": {why}" if why else ""))
-    run, blocks = delegation.delegated(model.Guest(file), asked.fuel, asked.workers, asked.batch, asked.seed or 0, 2,
-                                       *asked.nodes)
+    run, blocks = delegation.delegated(model.Guest(file), asked.fuel, asked.workers, asked.batch, asked.seed or 0,
+                                       2, *asked.nodes)
     print(*run.lines(blocks), sep="\n")
 
 
