@@ -24,7 +24,6 @@ BEGINS = re.compile(r"\(?(cat|for|make|done|echo) ?|\./(workbench|tclocks)[ -]| 
 LEFT_OUT = re.compile(r"\./tclocks-build|\./workbench (check|fuzz|refuse|endure|facts|bench)\b|\brt |make .*(-B|CC=)|PATH/TO|\.\.(?!/)"
                       r"|\b(GUEST|REPORT|FOLDER|FILE|HISTORY|RULE|NAME|W F B|G K)\b|apt-get|git |sums$|same$|\[|tclocks (demo|gen|nodes)|(?<!/)my\.elf"
                       r"|^\./(workbench|tclocks) [a-z]+$|^\./workbench judge \S+$|1 F B")
-MANY = re.compile(r"--runs \d{2,}")
 COMPILER = shutil.which("riscv64-unknown-elf-gcc")
 KEPT = {"counter": "counter", "philosophers": "philosophers", "first": "first", "first-alone": "first"}
 
@@ -107,9 +106,8 @@ class Definitions(Case):
 
 def fewer(text: str) -> str:
     """A command with fewer samples, and a sweep with one short run of each."""
-    sweep = r"\./workbench sweep \S+(?!.*--strips)"
-    return MANY.sub("--runs 4",
-                    re.sub(f"({sweep})", r"\1 --fuel 2000" + " --runs 1" * ("--runs" not in text), text))
+    short = r"\1 --fuel 2000" + " --runs 1" * ("--runs" not in text)
+    return re.sub(r"--runs \d{2,}", "--runs 4", re.sub(r"(\./workbench sweep \S+(?!.*--strips))", short, text))
 
 
 def commands_of(page: Path) -> list[str]:
@@ -226,8 +224,7 @@ class Guests(Case):
             self.assertEqual(found[3][0] == found[3][1] if wanted is None else found, wanted or True)
         # With the lock of the desk taken first, the others can't draw before customer 0 is served.
         done = run("finish", ANSWERS / "queue.elf", ANSWERS / "queue.txt")
-        self.assertEqual(done.returncode, 3)
-        self.says("would take lock 0, which thread 0 has", done)
+        self.one_line(done, 3, "would take lock 0, which thread 0 has")
 
     def test_delegation_of_the_queues(self) -> None:
         """Under the desk's lock nothing is adopted of the numbers' lock, and nothing granted of the desk's."""

@@ -78,9 +78,7 @@ class ByHand(Case):
         guest = saved("twice.elf", built(code, (0, 0), 1))
         lines = "thread 0\nthread 0\nthread 0\nthread 0 kind {}\n"
         self.assertEqual(run("finish", guest, given=lines.format("taken")).returncode, 0)
-        done = run("finish", guest, given=lines.format("adopted"))
-        self.assertEqual(done.returncode, 3)
-        self.says("did not wait", done)
+        self.one_line(run("finish", guest, given=lines.format("adopted")), 3, "did not wait")
 
     def test_who_is_set_aside_does_not_wait(self) -> None:
         """Worker 0 goes on with thread 0 behind thread 1's section: only then can it want the lock. Of a granted
@@ -88,8 +86,7 @@ class ByHand(Case):
         lines = "run workers 2 fuel 1000 batch 1\nthread 0\nthread 1 worker 1\nthread 0\nthread 1 kind adopted\n"
         beyond = " (this the judge asks, and the program's theorem does not say it)\n"
         done = run("finish", elf("first"), given=lines + "thread 0\nthread 1 worker 1\nthread 0 kind granted\n")
-        self.assertEqual(done.returncode, 3)
-        self.says(f"ran block 4 before thread 0 could wait for it{beyond}", done)
+        self.one_line(done, 3, f"ran block 4 before thread 0 could wait for it{beyond}")
         late = lines.replace("thread 0\nthread 1 kind adopted", "thread 0\nthread 0\nthread 1 kind taken")
         self.assertEqual(run("finish", elf("first"), given=late).returncode, 0)
         done = run("finish", elf("first"), given=late.replace("kind taken", "kind adopted"))
@@ -175,9 +172,7 @@ class Cuts(Case):
         self.says("a legal run, to the end of every thread", self.judged(on))
         for other, place in (("thread 0 end cut worker 0\nthread 1 worker 0\n", "block 1: worker 0 runs thread 1"),
                              ("thread 0 end cut worker 0\nthread 0 worker 1\n", "block 1: worker 1 runs thread 0")):
-            done = self.judged(other)
-            self.assertEqual(done.returncode, 3)
-            self.says(f"{place}, but block 0 was cut: worker 0 goes on with thread 0", done)
+            self.one_line(self.judged(other), 3, f"{place}, but block 0 was cut: worker 0 goes on with thread 0")
 
     def test_the_judge_refuses_what_was_changed(self) -> None:
         done = run("finish", self.guest, *self.options, "--on", given="thread 0 worker 1\n")

@@ -63,8 +63,8 @@ def words(tool: str, description: str | None, *first: str) -> Words:
     return parser
 
 
-def of_run(asked: argparse.Namespace) -> dict[str, int]:
-    """The numbers of a run that were asked for."""
+def of_run(asked: object) -> dict[str, int]:
+    """The numbers of a run that were asked for, or that a report says."""
     return {name: getattr(asked, name) for name in limits.RUN if getattr(asked, name) is not None}
 
 

@@ -25,18 +25,13 @@ def digit(number: int) -> str:
     return "0123456789ABCDEFGHIJKLMNOPQRSTUV"[number]
 
 
-def width(names: list[str]) -> int:
-    return max(10, 2 + max(map(len, names)))
-
-
 class Canvas:
     """Lanes of characters, with a colour for each where colours are wanted."""
 
-    def __init__(self, line: timeline.Timeline, called: names.Names, first: int, last: int) -> None:
+    def __init__(self, line: timeline.Timeline, names: list[str], wide: int, first: int, last: int) -> None:
         text = line.text
         self.first, self.last, self.workers, self.locks = first, last, text.threads, text.threads + text.workers
-        self.names = [name for names_ in called.lanes() for name in names_]
-        self.wide = width(self.names)
+        self.names, self.wide = names, wide
         self.lanes: list[list[tuple[str, Any]]] = [[(" ", None)] * (last - first + 1) for _ in self.names]
         for gap in line.part(first, last)[1]:
             self.put_gap(gap)
@@ -106,12 +101,14 @@ def show(line: timeline.Timeline, called: names.Names, first: int, last: int, as
         print("locks: " + " ".join(painted(f" {lock} ", by_lock(lock)) for lock in range(line.text.guards))
               + "  workers: " + " ".join(painted(f" {worker} ", by_worker(worker)) for worker in range(line.text.workers)))
     columns = shutil.get_terminal_size().columns if sys.stdout.isatty() else 100
-    room = max(20, (columns - width(sum(called.lanes(), [])) - 1) // 10 * 10)
+    lanes: list[str] = sum(called.lanes(), [])
+    wide = max(10, 2 + max(map(len, lanes)))
+    room = max(20, (columns - wide - 1) // 10 * 10)
     shown = min(last, first + asked.most - 1)
     for start in range(first, shown + 1, room):
         stop = min(start + room - 1, shown)
         print(f"\nblocks {start} to {stop}")
-        canvas = Canvas(line, called, start, stop)
+        canvas = Canvas(line, lanes, wide, start, stop)
         for row in (canvas.ruler(), *canvas.rows(colours)):
             print(row)
     print()

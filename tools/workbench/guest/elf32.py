@@ -10,6 +10,7 @@ from .. import limits
 LOAD, DYNAMIC, INTERP, NOTE, TLS = 1, 2, 3, 4, 7
 TYPES = {LOAD: "PT_LOAD", DYNAMIC: "PT_DYNAMIC", INTERP: "PT_INTERP", NOTE: "PT_NOTE", TLS: "PT_TLS"}
 HEADER, PROGRAM_HEADER = 52, 32  # bytes
+ENTRY = 24  # where e_entry stands
 
 
 class Header(NamedTuple):
@@ -35,10 +36,6 @@ class Header(NamedTuple):
 
 def word(file: bytes, at: int) -> int:
     return int.from_bytes(file[at:at + 4], "little")
-
-
-def entry(file: bytes) -> int:
-    return word(file, 24)
 
 
 def headers_place(file: bytes) -> tuple[int, int, int]:

@@ -132,7 +132,7 @@ def of_notes(file: bytes, headers: list[elf32.Header]) -> Generator[Finding, Non
             yield note.is_threads and found, 12, f"{header}: a second note TCLOCKS"
             if note.is_threads:
                 found = yield from of_descriptor(note.descriptor, header)
-    return found or ([(elf32.entry(file), 0)], [])
+    return found or ([(elf32.word(file, elf32.ENTRY), 0)], [])
 
 
 def of_descriptor(content: bytes, header: elf32.Header) -> Generator[Finding, None, tuple[Pairs, Pairs]]:

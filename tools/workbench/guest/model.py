@@ -58,7 +58,7 @@ class Guest:
     """What a file says: ranges (addresses, flags, bytes), entries and guards, and the guards' addresses."""
 
     def __init__(self, file: bytes) -> None:
-        self.entries, self.guards = [(elf32.entry(file), 0)], []
+        self.entries, self.guards = [(elf32.word(file, elf32.ENTRY), 0)], []
         self.ranges = []
         for header in elf32.headers(file):
             content = header.content(file)

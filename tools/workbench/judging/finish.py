@@ -105,9 +105,8 @@ def step(run: legal.Run, line: Line) -> report.Block:
 
 def possible(run: legal.Run) -> Iterator[str]:
     """The lines of what could come next."""
-    for block, workers in run.candidates():
-        others = f"  # or worker {', '.join(map(str, workers[1:]))}" if workers[1:] else ""
-        yield block.line(run.version) + others
+    for block, (_, *others) in run.candidates():
+        yield block.line(run.version) + (f"  # or worker {', '.join(map(str, others))}" if others else "")
     for number, thread in enumerate(run.machine.threads):
         lock = run.machine.next_lock(thread)
         if lock is not None and run.machine.locks[lock].owner is not None:

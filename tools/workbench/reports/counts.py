@@ -9,7 +9,7 @@ import types
 from collections import Counter
 from typing import Any, Iterable, Iterator
 
-from .. import limits, tool
+from .. import tool
 from ..limits import SECTIONS
 from . import report
 
@@ -212,16 +212,12 @@ def print_text(counted: Counts) -> None:
 
 def print_json(counted: Counts) -> None:
     tables = {f"by_{name}": rows for name, rows in counted.tables()}
-    print(json.dumps({**parameters(counted.text), "whole": counted.text.whole, **tables}, indent=1))
-
-
-def parameters(text: report.Report) -> dict[str, int]:
-    return {name: getattr(text, name) for name in limits.RUN}
+    print(json.dumps({**tool.of_run(counted.text), "whole": counted.text.whole, **tables}, indent=1))
 
 
 def print_csv(counted: Any) -> None:
     """One value a line, with the parameters of the run, so that the tables of all runs are one."""
-    writer, run = csv.writer(sys.stdout, lineterminator="\n"), parameters(counted.text)
+    writer, run = csv.writer(sys.stdout, lineterminator="\n"), tool.of_run(counted.text)
     writer.writerow([*run, "of", "number", "name", "value"])
     for name, rows in counted.tables():
         for row in rows:

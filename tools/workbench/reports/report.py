@@ -217,10 +217,9 @@ class Report:
 
     def guest_line(self) -> tuple[int, int]:
         threads, guards = map(int, self.lines.match(GUEST, "'guest threads N guards M'").groups())
-        for name, value, least, most in (("threads", threads, 1, limits.THREADS[self.version]),
-                                         ("guards", guards, 0, limits.GUARDS[self.version])):
-            if not least <= value <= most:
-                raise self.lines.wrong(f"about {least} to {most} {name}")
+        for name, value, least, most in (("threads", threads, 1, limits.THREADS), ("guards", guards, 0, limits.GUARDS)):
+            if not least <= value <= most[self.version]:
+                raise self.lines.wrong(f"about {least} to {most[self.version]} {name}")
         self.lines.take()
         return threads, guards
 
