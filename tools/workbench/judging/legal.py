@@ -174,9 +174,6 @@ class Run:
             taken = self.machine.next_lock(self.machine.threads[number]) is not None
             yield self.step(number, "taken" if taken else None, self.worker_for(number))
 
-    def header_lines(self) -> list[str]:
-        return report.header_lines(self.version, self.threads, self.guards, self.workers, self.fuel, self.limit)
-
     def ending_lines(self) -> Iterator[str]:
         """The report's lines behind the blocks, for threads that have ended."""
         threads, locks = self.machine.threads, self.machine.locks
@@ -189,7 +186,7 @@ class Run:
 
     def lines(self, blocks: list[Block]) -> Iterator[str]:
         """A report of these blocks, to its end where each thread has ended."""
-        yield from self.header_lines()
+        yield from report.header_lines(self.version, self.threads, self.guards, self.workers, self.fuel, self.limit)
         yield from (block.line(self.version) for block in blocks)
         if self.is_over():
             yield from self.ending_lines()
