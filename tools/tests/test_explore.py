@@ -25,8 +25,7 @@ from .common import COURSE, EXIT, GUESTS, NAMES, ONE, ROOT, TEMPORARY, Case, bui
 
 # Small guests that are drawn from a seed, and a search of all their interleavings by model.py without any
 # reduction: every block of every thread that can run one is a step, also those that take no lock.
-# x5 is where the data is, x7 and x9 have values, x8 what the thread notes, which becomes its exit code. What
-# is
+# x5 is where the data is, x7 and x9 have values, x8 what the thread notes, which becomes its exit code. What is
 # done under a lock whose word is at `at`, and between which numbers `k` is drawn:
 WORK = (
     ("lw 7 5 {at}; add 7 7 7; addi 7 7 {k}; sw 7 5 {at}", 1, 4),  # 2 * word + k: of two of these the order tells
