@@ -4,7 +4,6 @@ the program, over the same folder. And the gate .ci/run, over one with an rt and
 up."""
 from __future__ import annotations
 
-import ast
 import os
 import pathlib
 import re
@@ -201,13 +200,14 @@ class Rules(unittest.TestCase):
         self.assertIn(f"\nhistory={named['MAX_HISTORY']}\n", self.script)
 
     def test_the_programs_own_wrong_words_are_wrong_here(self) -> None:
-        table = re.search(r"(?s)\[[^=]*= ?&?\[(.*?)\n\];",
+        table = re.search(r"const NO_FORM: &str = \"\\n\\\n([^\"]*)\";",
                           (ROOT / "crates/tc_tests/src/outside.rt").read_text())
         assert table
-        lists = re.findall(r"&\[((?:b\"[^\"]*\"(?:, )?)*)\]", table[1])
+        # The table's first line is that of no words. In a word `_` is a blank, and `?` a byte that no text has.
+        lists = ["", *table[1].splitlines()]
         self.assertGreater(len(lists), 30)
         for listed in lists:
-            words = [ast.literal_eval(word) for word in re.findall(r"b\"[^\"]*\"", listed)]
+            words = [word.encode().replace(b"_", b" ").replace(b"?", b"\xff") for word in listed.split()]
             done = process(ROOT / "tclocks", *words, stdin=subprocess.DEVNULL, env={"PATH": "/usr/bin:/bin"})
             self.assertEqual((done.returncode, done.stdout, done.stderr), (1, USAGE, b""), words)
 

@@ -1,6 +1,6 @@
 //! Cases: the guest of a lone thread, and its whole report.
 
-use crate::guests::{NOP, built, joined, plain};
+use crate::guests::{NOP, built, code_of, plain};
 use crate::ran::run;
 use std::alloc::{AllocError, Global};
 use std::process::Abort;
@@ -16,19 +16,21 @@ pub(crate) const START: &str =
 pub(crate) const X24: &str =
     "x24 00000000 00000000 00000000 00000000 00000000 00000000 00000000 00000000";
 
-/// The guest of a lone thread, what is asked, and what its report has.
+/// The guest of a lone thread, what is asked, and what its report has. Its fields are numbers and
+/// texts alone: with an array among them the proof of a table of cases takes many times as long.
 #[derive(Clone, Copy)]
 pub(crate) struct Case<'a> {
     /// How many instructions that do nothing come first.
     pub nops: usize,
-    /// The thread's code behind them, in pieces.
-    pub code: &'a [&'a [u32]],
+    /// The thread's code behind them.
+    pub code: &'a str,
     /// How many locks the guest has, each with a guard of one word from 0x00020000 on.
     pub guards: usize,
-    /// The numbers of fuel and batch limit. Each case is run by each number of workers.
-    pub asked: [&'a str; 2],
+    /// The fuel and the batch limit. Each case is run by one to eight workers.
+    pub fuel: u32,
+    pub batch: u32,
     /// The lines of blocks.
-    pub blocks: &'a [&'a str],
+    pub blocks: &'a str,
     /// How the thread ends, with its fuel and its program counter.
     pub end: &'a str,
     /// The line of the registers x0 to x7.
@@ -37,65 +39,58 @@ pub(crate) struct Case<'a> {
     pub x10: u32,
     pub x17: u32,
     /// The lines of locks.
-    pub locks: &'a [&'a str],
+    pub locks: &'a str,
 }
-
-/// The numbers of workers.
-pub(crate) const WORKERS: [&str; 8] = ["1", "2", "3", "4", "5", "6", "7", "8"];
 
 /// What most cases share: fuel 100, batch limit 4, and a thread that ends at its start.
 pub(crate) const LONE: Case<'static> = Case {
     nops: 0,
-    code: &[],
+    code: "",
     guards: 0,
-    asked: ["100", "4"],
-    blocks: &[],
+    fuel: 100,
+    batch: 4,
+    blocks: "",
     end: "",
     x0: START,
     x10: 0,
     x17: 0,
-    locks: &[],
+    locks: "",
 };
 
-/// The code of a case.
-fn code_of(alloc: Global, case: &Case<'_>) -> Result<Vec<u32>, AllocError> {
+/// The whole code of a case.
+fn code_of_case<R: Abort>(rt: &R, alloc: Global, case: &Case<'_>) -> Result<Vec<u32>, AllocError> {
     let mut code = vec![in alloc; NOP; case.nops]?;
-    code.extend_from_slice(&joined(alloc, case.code)?)?;
+    code.extend_from_slice(&code_of(rt, alloc, case.code)?)?;
     Ok(code)
 }
 
-/// Appends lines to a text.
-fn push_lines(text: &mut String, lines: &[&str]) -> Result<(), AllocError> {
-    for line in lines {
-        write!(text, "{line}\n")?;
-    }
-    Ok(())
-}
-
 /// The whole report of a case with so many workers, where worker 0 runs each block.
-fn report_of(alloc: Global, case: &Case<'_>, workers: &str) -> Result<String, AllocError> {
+fn report_of(alloc: Global, case: &Case<'_>, workers: u32) -> Result<String, AllocError> {
     let Case {
         guards,
+        fuel,
+        batch,
+        blocks,
         end,
         x0,
         x10,
         x17,
+        locks,
         ..
     } = *case;
-    let [fuel, batch] = case.asked;
-    let mut text = String::from_str(alloc, "tclocks 2\n")?;
-    write!(text, "guest threads 1 guards {guards}\n")?;
-    write!(text, "run workers {workers} fuel {fuel} batch {batch}\n")?;
-    push_lines(&mut text, case.blocks)?;
-    write!(text, "thread 0 {end}\n{x0}\n")?;
-    write!(text, "x8 00000000 00000000 {x10:08x}")?;
-    text.push_str(" 00000000 00000000 00000000 00000000 00000000\n")?;
-    write!(text, "x16 00000000 {x17:08x}")?;
-    text.push_str(" 00000000 00000000 00000000 00000000 00000000 00000000\n")?;
-    push_lines(&mut text, &[X24])?;
-    push_lines(&mut text, case.locks)?;
-    text.push_str("end\n")?;
-    Ok(text)
+    format!(in alloc;
+        "\
+tclocks 2
+guest threads 1 guards {guards}
+run workers {workers} fuel {fuel} batch {batch}
+{blocks}thread 0 {end}
+{x0}
+x8 00000000 00000000 {x10:08x} 00000000 00000000 00000000 00000000 00000000
+x16 00000000 {x17:08x} 00000000 00000000 00000000 00000000 00000000 00000000
+{X24}
+{locks}end
+"
+    )
 }
 
 /// Runs a file with each number of workers, and compares its report with the case's, whichever
@@ -106,13 +101,11 @@ fn check<R: Threads + Wait + Sync + Abort>(
     file: &[u8],
     case: &Case<'_>,
 ) -> Result<(), AllocError> {
-    let [fuel, batch] = case.asked;
-    for workers in WORKERS {
-        let ran = run(rt, alloc, [workers, fuel, batch], file)?;
-        let report = report_of(alloc, case, workers)?;
-        assert_eq!(rt; ran.status, Status::Done);
-        let text = ran.by_worker_0(alloc)?;
-        assert!(rt; text == report, "{text}instead of\n{report}");
+    let Case { fuel, batch, .. } = *case;
+    for workers in 1..=8 {
+        let words = format!(in alloc; "run {workers} {fuel} {batch}")?;
+        let ran = run(rt, alloc, &words, file)?.by_worker_0(alloc)?;
+        ran.check(rt, Status::Done, &report_of(alloc, case, workers)?);
     }
     Ok(())
 }
@@ -124,7 +117,7 @@ pub(crate) fn check_plain<R: Threads + Wait + Sync + Abort>(
     cases: &[Case<'_>],
 ) -> Result<(), AllocError> {
     for case in cases {
-        let file = plain(alloc, &code_of(alloc, case)?)?;
+        let file = plain(alloc, &code_of_case(rt, alloc, case)?)?;
         check(rt, alloc, &file, case)?;
     }
     Ok(())
@@ -137,7 +130,7 @@ pub(crate) fn check_built<R: Threads + Wait + Sync + Abort>(
     cases: &[Case<'_>],
 ) -> Result<(), AllocError> {
     for case in cases {
-        let code = code_of(alloc, case)?;
+        let code = code_of_case(rt, alloc, case)?;
         let file = built(rt, alloc, &code, &[(0, 0)], case.guards)?;
         check(rt, alloc, &file, case)?;
     }

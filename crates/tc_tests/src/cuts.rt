@@ -1,7 +1,7 @@
 //! The smallest guest's file, cut at each length.
 
 use crate::guests::{SMALLEST, SMALLEST_REPORT};
-use crate::ran::run;
+use crate::ran::{CALM, check_run};
 use std::test::Fail;
 use tc_main::status::Status;
 
@@ -15,16 +15,21 @@ const CUTS: [(usize, u32, &str); 3] = [
     (92, 9, "refused 9 BadLoad\n"),
 ];
 
+/// What is told of the file's first bytes.
+fn told(length: usize) -> (Status, &'static str) {
+    for (least, number, line) in &CUTS {
+        if length < *least {
+            return (Status::Refused(*number), line);
+        }
+    }
+    (Status::Done, SMALLEST_REPORT)
+}
+
 #[test]
 fn a_cut_file_is_refused_at_each_length(rt: HostRuntime) -> Result<(), Fail> {
     for length in 0..=SMALLEST.len() {
-        let ran = run(&rt, rt.alloc(), ["1", "100", "0"], &SMALLEST[..length])?;
-        let (status, text) = match CUTS.iter().find(|cut| length < cut.0) {
-            Some((_, number, line)) => (Status::Refused(*number), *line),
-            None => (Status::Done, SMALLEST_REPORT),
-        };
-        assert_eq!(rt; ran.status, status, "{length} bytes");
-        assert_eq!(rt; ran.text(), text, "{length} bytes");
+        let file = &SMALLEST[..length];
+        check_run(&rt, rt.alloc(), "run 1 100 0", file, &CALM, told(length))?;
     }
     Ok(())
 }

@@ -2,11 +2,8 @@
 //! first read would fail here.
 
 use crate::guests::SMALLEST;
-use crate::ran::{CALM, Outside, Ran, run_with};
-use std::alloc::{AllocError, Global};
-use std::sync::Wait;
+use crate::ran::{Ran, UNREAD, check_run, run_with};
 use std::test::Fail;
-use std::thread::Threads;
 use tc_elf::load::load;
 use tc_main::status::Status;
 
@@ -29,70 +26,55 @@ data 00020030 00000000e80300000000000000000000
 end
 ";
 
-/// Runs the program where each read of the source fails.
-fn ask<R: Threads + Wait + Sync>(
-    rt: &R,
-    alloc: Global,
-    words: &[&[u8]],
-) -> Result<Ran, AllocError> {
-    let outside = Outside {
-        failing_reads: &[0],
-        ..CALM
-    };
-    run_with(rt, alloc, words, &SMALLEST, &outside)
-}
-
 #[test]
 fn one_round_is_summed_up_alike_on_any_workers(rt: HostRuntime) -> Result<(), Fail> {
-    for workers in [b"1", b"4"] {
-        let ran = ask(&rt, rt.alloc(), &[b"demo", b"1", workers])?;
-        assert_eq!(rt; ran.status, Status::Done);
-        assert_eq!(rt; ran.text(), ONE_ROUND);
+    let told = (Status::Done, ONE_ROUND);
+    for words in ["demo 1 1", "demo 1 4"] {
+        check_run(&rt, rt.alloc(), words, &SMALLEST, &UNREAD, told)?;
     }
     Ok(())
 }
 
 #[test]
 fn five_rounds_are_summed_up_alike_twice(rt: HostRuntime) -> Result<(), Fail> {
-    let words: [&[u8]; 3] = [b"demo", b"5", b"4"];
-    let first = ask(&rt, rt.alloc(), &words)?;
-    let second = ask(&rt, rt.alloc(), &words)?;
-    assert_eq!(rt; first.status, Status::Done);
-    assert_eq!(rt; second.status, Status::Done);
-    assert_eq!(rt; first.text().lines().next(), Some("tclocks demo 5"));
-    assert_eq!(rt; first.text(), second.text());
+    let first = run_with(&rt, rt.alloc(), "demo 5 4", &SMALLEST, &UNREAD)?;
+    first.check_done(&rt);
+    assert!(rt; first.text().starts_with("tclocks demo 5\n"));
+    let told = (Status::Done, first.text());
+    check_run(&rt, rt.alloc(), "demo 5 4", &SMALLEST, &UNREAD, told)?;
     Ok(())
+}
+
+/// How many lines are of locks that are not broken and guard 16 bytes.
+fn whole_locks(ran: &Ran) -> usize {
+    let mut count: usize = 0;
+    for line in ran.text().lines() {
+        if line.starts_with("lock ") && line.contains(" broken 0 bytes 16") {
+            count = count.saturating_add(1);
+        }
+    }
+    count
 }
 
 /// The greatest number of rounds: its fuel is enough.
 #[test]
 fn two_thousand_rounds_end(rt: HostRuntime) -> Result<(), Fail> {
-    let ran = ask(&rt, rt.alloc(), &[b"demo", b"2000", b"4"])?;
-    assert_eq!(rt; ran.status, Status::Done);
-    assert!(rt;
-        ran.text()
-            .starts_with("tclocks demo 2000\nblocks 20004 turns 84012\n")
-    );
-    for line in [
-        "thread 0 exit fuel 44533",
-        "thread 1 exit fuel 44533",
-        "thread 2 exit fuel 44533",
-        "thread 3 exit fuel 44533",
-    ] {
-        assert!(rt; ran.has_line(line), "{line}");
-    }
-    let mut locks = ran.text().lines().filter(|line| line.starts_with("lock "));
-    for _ in 0..4 {
-        let line = locks.next().unwrap_or("");
-        assert!(rt; line.contains(" broken 0 bytes 16"), "{line}");
-    }
+    let ran = run_with(&rt, rt.alloc(), "demo 2000 4", &SMALLEST, &UNREAD)?;
+    ran.check_done(&rt);
+    let text = ran.text();
+    assert!(rt; text.starts_with("tclocks demo 2000\nblocks 20004 turns 84012\n"));
+    ran.check_line(&rt, "thread 0 exit fuel 44533");
+    ran.check_line(&rt, "thread 1 exit fuel 44533");
+    ran.check_line(&rt, "thread 2 exit fuel 44533");
+    ran.check_line(&rt, "thread 3 exit fuel 44533");
+    assert_eq!(rt; whole_locks(&ran), 4);
     Ok(())
 }
 
 #[test]
 fn the_file_of_one_round_is_loaded(rt: HostRuntime) -> Result<(), Fail> {
-    let ran = ask(&rt, rt.alloc(), &[b"gen", b"1"])?;
-    assert_eq!(rt; ran.status, Status::Done);
+    let ran = run_with(&rt, rt.alloc(), "gen 1", &SMALLEST, &UNREAD)?;
+    ran.check_done(&rt);
     assert_eq!(rt; ran.written.len(), 524);
     let image = load(rt.alloc(), &ran.written)?;
     assert_eq!(rt; image.threads(), 4);

@@ -1,9 +1,9 @@
 //! Sources and sinks that give and take few bytes in a call, and fail in one of their calls.
 
 use crate::guests::{SMALLEST, SMALLEST_REPORT};
-use crate::histories::EXITS;
+use crate::histories::exited;
 use crate::outside::USAGE;
-use crate::ran::{CALM, Outside, run_with};
+use crate::ran::{CALM, Outside, UNREAD, check_run, run, run_with};
 use std::alloc::{AllocError, Global};
 use std::process::Abort;
 use std::sync::Wait;
@@ -12,7 +12,7 @@ use std::thread::Threads;
 use tc_main::status::Status;
 
 /// The words with which the smallest guest is run.
-const RUN: [&[u8]; 4] = [b"run", b"1", b"100", b"0"];
+const RUN: &str = "run 1 100 0";
 
 /// How many bytes a call gives or takes.
 const PIECES: [usize; 5] = [1, 7, 16, 91, 4096];
@@ -30,15 +30,12 @@ fn check_source<R: Threads + Wait + Sync + Abort>(
         failing_reads: &[call as u64],
         ..CALM
     };
-    let ran = run_with(rt, alloc, &RUN, &SMALLEST, &outside)?;
-    let (status, text) = if call <= SMALLEST.len().div_ceil(most.max(1)) {
+    let told = if call <= SMALLEST.len().div_ceil(most.max(1)) {
         (Status::ReadFault, "")
     } else {
         (Status::Done, SMALLEST_REPORT)
     };
-    assert_eq!(rt; ran.status, status, "call {call}, pieces of {most}");
-    assert_eq!(rt; ran.text(), text, "call {call}, pieces of {most}");
-    Ok(())
+    check_run(rt, alloc, RUN, &SMALLEST, &outside, told)
 }
 
 /// Each call of a source may fail. One that gives a byte in each call, and fails in none of its calls,
@@ -57,7 +54,7 @@ fn a_source_may_fail_in_each_call(rt: HostRuntime) -> Result<(), Fail> {
 /// fails.
 #[derive(Clone, Copy)]
 struct Text<'a> {
-    words: &'a [&'a [u8]],
+    words: &'a str,
     file: &'a [u8],
     text: &'a [u8],
     whole: Status,
@@ -79,19 +76,15 @@ fn check_sink<R: Threads + Wait + Sync + Abort>(
         ..CALM
     };
     let ran = run_with(rt, alloc, case.words, case.file, &outside)?;
-    let text = case.text;
-    let taken = call.saturating_mul(most).min(text.len());
-    let status = if taken < text.len() {
-        case.cut
-    } else {
-        case.whole
+    let (status, text) = match case.text.get(..call.saturating_mul(most)) {
+        Some(text) if text.len() < case.text.len() => (case.cut, text),
+        _ => (case.whole, case.text),
     };
-    assert_eq!(rt; ran.status, status, "call {call}, pieces of {most}");
-    assert_eq!(rt;
-        ran.written.as_slice(),
-        &text[..taken],
+    assert!(rt;
+        ran.written.as_slice() == text,
         "call {call}, pieces of {most}"
     );
+    assert_eq!(rt; ran.status, status);
     Ok(())
 }
 
@@ -109,32 +102,36 @@ fn check_sinks<R: Threads + Wait + Sync + Abort>(
     Ok(())
 }
 
+/// A text that answers words by a status of its own, which a write that fails does not change.
+fn answer<'a>(words: &'a str, file: &'a [u8], text: &'a str, status: Status) -> Text<'a> {
+    Text {
+        words,
+        file,
+        text: text.as_bytes(),
+        whole: status,
+        cut: status,
+    }
+}
+
+/// A text that was asked for: a write that fails is told by its status.
+fn wanted<'a>(words: &'a str, file: &'a [u8], text: &'a [u8]) -> Text<'a> {
+    Text {
+        words,
+        file,
+        text,
+        whole: Status::Done,
+        cut: Status::WriteFault,
+    }
+}
+
 /// Each call of a sink may fail. A report is a front then, with a status of its own; a usage line and
 /// a refusal are still the answer to their words.
 #[test]
 fn a_sink_may_fail_in_each_call(rt: HostRuntime) -> Result<(), Fail> {
     let texts = [
-        Text {
-            words: &RUN,
-            file: &SMALLEST,
-            text: SMALLEST_REPORT.as_bytes(),
-            whole: Status::Done,
-            cut: Status::WriteFault,
-        },
-        Text {
-            words: &[b"stop"],
-            file: &SMALLEST,
-            text: USAGE.as_bytes(),
-            whole: Status::Usage,
-            cut: Status::Usage,
-        },
-        Text {
-            words: &[b"run", b"1", b"1", b"0"],
-            file: &[],
-            text: b"refused 1 TooShort\n",
-            whole: Status::Refused(1),
-            cut: Status::Refused(1),
-        },
+        wanted(RUN, &SMALLEST, SMALLEST_REPORT.as_bytes()),
+        answer("stop", &SMALLEST, USAGE, Status::Usage),
+        answer("run 1 1 0", &[], "refused 1 TooShort\n", Status::Refused(1)),
     ];
     for case in &texts {
         for most in PIECES {
@@ -144,25 +141,22 @@ fn a_sink_may_fail_in_each_call(rt: HostRuntime) -> Result<(), Fail> {
     Ok(())
 }
 
+/// A sink that takes 16 bytes in a call, and fails in the second.
+const SECOND_WRITE: Outside<'static> = Outside {
+    most: 16,
+    failing_writes: &[1],
+    ..CALM
+};
+
 /// A source that fails and a sink that fails are told for each number of workers.
 #[test]
 fn faults_are_told_for_each_number_of_workers(rt: HostRuntime) -> Result<(), Fail> {
-    for workers in [b"1", b"2", b"3", b"4", b"5", b"6", b"7", b"8"] {
-        let words = [b"run".as_slice(), workers, b"100", b"0"];
-        let failing = Outside {
-            failing_reads: &[0],
-            ..CALM
-        };
-        let ran = run_with(&rt, rt.alloc(), &words, &SMALLEST, &failing)?;
-        assert!(rt; ran.status == Status::ReadFault && ran.written.is_empty());
-        let failing = Outside {
-            most: 16,
-            failing_writes: &[1],
-            ..CALM
-        };
-        let ran = run_with(&rt, rt.alloc(), &words, &SMALLEST, &failing)?;
-        assert_eq!(rt; ran.status, Status::WriteFault);
-        assert_eq!(rt; ran.written.as_slice(), b"tclocks 2\nguest ".as_slice());
+    for workers in 1..=8 {
+        let words = format!(in rt.alloc(); "run {workers} 100 0")?;
+        let told = (Status::ReadFault, "");
+        check_run(&rt, rt.alloc(), &words, &SMALLEST, &UNREAD, told)?;
+        let told = (Status::WriteFault, "tclocks 2\nguest ");
+        check_run(&rt, rt.alloc(), &words, &SMALLEST, &SECOND_WRITE, told)?;
     }
     Ok(())
 }
@@ -172,39 +166,36 @@ fn faults_are_told_for_each_number_of_workers(rt: HostRuntime) -> Result<(), Fai
 fn check_form<R: Threads + Wait + Sync + Abort>(
     rt: &R,
     alloc: Global,
-    words: &[&[u8]],
+    words: &str,
     file: &[u8],
     size: usize,
 ) -> Result<(), AllocError> {
-    let ran = run_with(rt, alloc, words, file, &CALM)?;
-    assert_eq!(rt; ran.status, Status::Done);
+    let ran = run(rt, alloc, words, file)?;
+    ran.check_done(rt);
     assert_eq!(rt; ran.written.len(), size);
-    let case = Text {
-        words,
-        file,
-        text: &ran.written,
-        whole: Status::Done,
-        cut: Status::WriteFault,
-    };
-    check_sinks(rt, alloc, &case, 16)
+    check_sinks(rt, alloc, &wanted(words, file, &ran.written), 16)
 }
+
+/// The forms of words that read the file of the smallest guest or nothing, and how long their texts are.
+const FORMS: [(&str, usize); 4] = [
+    (RUN, 479),
+    ("nodes 1 0 1 100 0", 479),
+    ("gen 1", 524),
+    ("demo 1 1", 470),
+];
+
+/// The forms that read a history behind it.
+const HISTORY_FORMS: [(&str, usize); 2] = [("replay 92 1 100 0", 479), ("profile 92 1 100 0", 56)];
 
 /// The text of each form is written by one call of `write_all`, which gives the sink all that is left.
 #[test]
 fn each_form_is_written_as_one_text(rt: HostRuntime) -> Result<(), Fail> {
-    let alloc = rt.alloc();
-    let mut history = Vec::from_slice(alloc, &SMALLEST)?;
-    history.extend_from_slice(EXITS.as_bytes())?;
-    let forms: [(&[&[u8]], &[u8], usize); 6] = [
-        (&RUN, &SMALLEST, 479),
-        (&[b"nodes", b"1", b"0", b"1", b"100", b"0"], &SMALLEST, 479),
-        (&[b"replay", b"92", b"1", b"100", b"0"], &history, 479),
-        (&[b"profile", b"92", b"1", b"100", b"0"], &history, 56),
-        (&[b"gen", b"1"], &[], 524),
-        (&[b"demo", b"1", b"1"], &[], 470),
-    ];
-    for (words, file, size) in forms {
-        check_form(&rt, alloc, words, file, size)?;
+    for (words, size) in &FORMS {
+        check_form(&rt, rt.alloc(), words, &SMALLEST, *size)?;
+    }
+    let history = exited(rt.alloc())?;
+    for (words, size) in &HISTORY_FORMS {
+        check_form(&rt, rt.alloc(), words, &history, *size)?;
     }
     Ok(())
 }

@@ -4,7 +4,7 @@
 //! The reports were worked out by hand from the rules of `docs/GUEST.md`. One worker runs thread 0
 //! to its end, and then thread 1.
 
-use crate::guests::{DATA, ECALL, EXIT, KEEP, LOCK_0, LOCK_1, LOCK_2, UNLOCK_0, built, joined};
+use crate::guests::{built, code_of};
 use crate::ran::{Ran, run};
 use std::alloc::{AllocError, Global};
 use std::process::Abort;
@@ -15,7 +15,7 @@ use tc_main::status::Status;
 
 /// sw x2,0(x5). Thread 0 begins at 0x00100024 with lui x5,0x20, LOCK 0 and this store in the guard of
 /// lock 0. The code of a case follows, at 0x00100038.
-const STORE: [u32; 1] = [0x0022_a023];
+const STORE: &str = "0022a023";
 
 /// The registers of thread 0 before the code of a case: x2 is its stack's end, x5 the guard of lock
 /// 0, x10 the answer of LOCK and x17 the number of LOCK.
@@ -65,6 +65,8 @@ end
 /// What a report has of thread 0, which faults while it holds lock 0.
 #[derive(Clone, Copy)]
 struct Shown<'a> {
+    /// The code of the case.
+    code: &'a str,
     /// The number of the fault.
     fault: u32,
     /// The turns of the block with the fault.
@@ -81,6 +83,7 @@ struct Shown<'a> {
 
 /// A fault of the first word of a case.
 const AT_ONCE: Shown<'static> = Shown {
+    code: "",
     fault: 0,
     turns: 3,
     fuel: 94,
@@ -106,163 +109,153 @@ const THIRD: Shown<'static> = Shown {
 };
 
 /// Words that fault at once, each with its fault. A load that faults would write x2.
-const WORDS: [(u32, u32); 11] = [
+const WORDS: [(&str, u32); 11] = [
     // Illegal.
-    (0xffff_ffff, 1),
+    ("ffffffff", 1),
     // JumpTarget: jal x1,6, which leaves x1 as it is; beq x0,x0,2.
-    (0x0060_00ef, 3),
-    (0x0000_0163, 3),
+    ("006000ef", 3),
+    ("00000163", 3),
     // Load and Store: lw x2,0(x0) and sw x2,0(x0), where nothing is.
-    (0x0000_2103, 4),
-    (0x0020_2023, 5),
+    ("00002103", 4),
+    ("00202023", 5),
     // Misaligned: lh x2,1(x5) in the guard of the lock, sw x2,2(x5) in it and the next one.
-    (0x0012_9103, 6),
-    (0x0022_a123, 6),
+    ("00129103", 6),
+    ("0022a123", 6),
     // Unguarded: lw x2,4(x5) and sw x2,4(x5), in the guard of lock 1.
-    (0x0042_a103, 7),
-    (0x0022_a223, 7),
+    ("0042a103", 7),
+    ("0022a223", 7),
     // Break.
-    (0x0010_0073, 8),
+    ("00100073", 8),
     // LockOrder: ecall, a LOCK of lock 0 again.
-    (ECALL, 11),
+    ("ECALL", 11),
 ];
 
 /// Faults behind other words.
-const BEHIND: [(&[u32], Shown<'static>); 8] = [
+const BEHIND: [Shown<'static>; 8] = [
     // Fetch: lui x6,0x40000; jalr x9,4(x6), which goes to an address where nothing is.
-    (
-        &[0x4000_0337, 0x0043_04e7],
-        Shown {
-            fault: 2,
-            pc: "40000004",
-            x0: "x0 00000000 00000000 80000000 00000000 00000000 00020000 40000000 00000000",
-            x8: "x8 00000000 00100040 00000000 00000000 00000000 00000000 00000000 00000000",
-            ..THIRD
-        },
-    ),
+    Shown {
+        code: "40000337 004304e7",
+        fault: 2,
+        pc: "40000004",
+        x0: "x0 00000000 00000000 80000000 00000000 00000000 00020000 40000000 00000000",
+        x8: "x8 00000000 00100040 00000000 00000000 00000000 00000000 00000000 00000000",
+        ..THIRD
+    },
     // Fetch: jalr x0,0(x5), which goes to the guard of the lock.
-    (
-        &[0x0002_8067],
-        Shown {
-            fault: 2,
-            pc: "00020000",
-            ..SECOND
-        },
-    ),
+    Shown {
+        code: "00028067",
+        fault: 2,
+        pc: "00020000",
+        ..SECOND
+    },
     // Store: auipc x6,0; sw x2,0(x6), into the code.
-    (
-        &[0x0000_0317, 0x0023_2023],
-        Shown {
-            fault: 5,
-            x0: "x0 00000000 00000000 80000000 00000000 00000000 00020000 00100038 00000000",
-            ..SECOND
-        },
-    ),
+    Shown {
+        code: "00000317 00232023",
+        fault: 5,
+        x0: "x0 00000000 00000000 80000000 00000000 00000000 00020000 00100038 00000000",
+        ..SECOND
+    },
     // BadCall: addi x17,x0,64; ecall.
-    (
-        &[0x0400_0893, ECALL],
-        Shown {
-            fault: 9,
-            x16: "x16 00000000 00000040 00000000 00000000 00000000 00000000 00000000 00000000",
-            ..SECOND
-        },
-    ),
+    Shown {
+        code: "04000893 ECALL",
+        fault: 9,
+        x16: "x16 00000000 00000040 00000000 00000000 00000000 00000000 00000000 00000000",
+        ..SECOND
+    },
     // BadCall: SLEEP 256.
-    (
-        &[0x1000_0513, 0x0030_0893, ECALL],
-        Shown {
-            fault: 9,
-            x8: "x8 00000000 00000000 00000100 00000000 00000000 00000000 00000000 00000000",
-            x16: "x16 00000000 00000003 00000000 00000000 00000000 00000000 00000000 00000000",
-            ..THIRD
-        },
-    ),
+    Shown {
+        code: "10000513 00300893 ECALL",
+        fault: 9,
+        x8: "x8 00000000 00000000 00000100 00000000 00000000 00000000 00000000 00000000",
+        x16: "x16 00000000 00000003 00000000 00000000 00000000 00000000 00000000 00000000",
+        ..THIRD
+    },
     // BadLock: addi x10,x0,5; ecall, a LOCK of no lock.
-    (
-        &[0x0050_0513, ECALL],
-        Shown {
-            fault: 10,
-            x8: "x8 00000000 00000000 00000005 00000000 00000000 00000000 00000000 00000000",
-            ..SECOND
-        },
-    ),
+    Shown {
+        code: "00500513 ECALL",
+        fault: 10,
+        x8: "x8 00000000 00000000 00000005 00000000 00000000 00000000 00000000 00000000",
+        ..SECOND
+    },
     // BadLock: UNLOCK 5, of no lock.
-    (
-        &[0x0050_0513, 0x0020_0893, ECALL],
-        Shown {
-            fault: 10,
-            x8: "x8 00000000 00000000 00000005 00000000 00000000 00000000 00000000 00000000",
-            x16: "x16 00000000 00000002 00000000 00000000 00000000 00000000 00000000 00000000",
-            ..THIRD
-        },
-    ),
+    Shown {
+        code: "00500513 00200893 ECALL",
+        fault: 10,
+        x8: "x8 00000000 00000000 00000005 00000000 00000000 00000000 00000000 00000000",
+        x16: "x16 00000000 00000002 00000000 00000000 00000000 00000000 00000000 00000000",
+        ..THIRD
+    },
     // NotHeld: UNLOCK 1.
-    (
-        &[0x0010_0513, 0x0020_0893, ECALL],
-        Shown {
-            fault: 12,
-            x8: "x8 00000000 00000000 00000001 00000000 00000000 00000000 00000000 00000000",
-            x16: "x16 00000000 00000002 00000000 00000000 00000000 00000000 00000000 00000000",
-            ..THIRD
-        },
-    ),
+    Shown {
+        code: "00100513 00200893 ECALL",
+        fault: 12,
+        x8: "x8 00000000 00000000 00000001 00000000 00000000 00000000 00000000 00000000",
+        x16: "x16 00000000 00000002 00000000 00000000 00000000 00000000 00000000 00000000",
+        ..THIRD
+    },
 ];
 
 /// Runs a guest of two threads and five locks. Thread 1 begins at 0x00100000, takes and releases
-/// lock 0 and exits. Thread 0 has these pieces of code.
+/// lock 0 and exits. Thread 0 has this code.
 fn ran<R: Threads + Wait + Sync + Abort>(
     rt: &R,
     alloc: Global,
-    pieces: &[&[u32]],
+    code: &str,
 ) -> Result<Ran, AllocError> {
-    let mut code = joined(alloc, &[&LOCK_0, &KEEP, &UNLOCK_0, &EXIT])?;
-    code.extend_from_slice(&joined(alloc, pieces)?)?;
+    let code = format!(in alloc; "LOCK_0 KEEP UNLOCK_0 EXIT {code}")?;
+    let code = code_of(rt, alloc, &code)?;
     let file = built(rt, alloc, &code, &[(9, 0), (0, 0)], 5)?;
-    let ran = run(rt, alloc, ["1", "100", "4"], &file)?;
-    assert_eq!(rt; ran.status, Status::Done);
-    Ok(ran)
+    run(rt, alloc, "run 1 100 4", &file)
 }
 
 /// The whole report.
 fn report_of(alloc: Global, shown: &Shown<'_>) -> Result<String, AllocError> {
-    let Shown { fault, fuel, .. } = *shown;
-    let mut text = String::from_str(alloc, BEFORE)?;
-    write!(
-        text,
-        "block 1 thread 0 turns {} held 0 kind taken",
-        shown.turns
-    )?;
-    write!(text, " worker 0 pc 00100030 end fault {fault}\n")?;
-    text.push_str(BETWEEN)?;
-    write!(text, "thread 0 fault {fault} fuel {fuel} pc {}\n", shown.pc)?;
-    write!(text, "{}\n{}\n{}\n", shown.x0, shown.x8, shown.x16)?;
-    text.push_str(AFTER)?;
-    Ok(text)
+    let Shown {
+        fault,
+        turns,
+        fuel,
+        pc,
+        x0,
+        x8,
+        x16,
+        ..
+    } = *shown;
+    format!(in alloc;
+        "\
+{BEFORE}block 1 thread 0 turns {turns} held 0 kind taken worker 0 pc 00100030 end fault {fault}
+{BETWEEN}thread 0 fault {fault} fuel {fuel} pc {pc}
+{x0}
+{x8}
+{x16}
+{AFTER}"
+    )
 }
 
-/// Runs this code with lock 0 held, and compares the report.
+/// Runs the case's code with lock 0 held, and compares the report.
 fn check<R: Threads + Wait + Sync + Abort>(
     rt: &R,
     alloc: Global,
-    code: &[u32],
     shown: &Shown<'_>,
 ) -> Result<(), AllocError> {
-    let ran = ran(rt, alloc, &[&DATA, &LOCK_0, &STORE, code])?;
-    let report = report_of(alloc, shown)?;
-    let text = ran.text();
-    assert!(rt; text == report.as_str(), "{text}instead of\n{report}");
+    let code = format!(in alloc; "DATA LOCK_0 {STORE} {}", shown.code)?;
+    let ran = ran(rt, alloc, &code)?;
+    ran.check(rt, Status::Done, &report_of(alloc, shown)?);
     Ok(())
 }
 
 /// Each of the twelve faults with lock 0 held. All of them can come so.
 #[test]
 fn a_fault_with_a_lock_held_breaks_the_lock(rt: HostRuntime) -> Result<(), Fail> {
-    for (word, fault) in WORDS {
-        let shown = Shown { fault, ..AT_ONCE };
-        check(&rt, rt.alloc(), &[word], &shown)?;
+    for (code, fault) in WORDS {
+        let shown = Shown {
+            code,
+            fault,
+            ..AT_ONCE
+        };
+        check(&rt, rt.alloc(), &shown)?;
     }
-    for (code, shown) in &BEHIND {
-        check(&rt, rt.alloc(), code, shown)?;
+    for shown in &BEHIND {
+        check(&rt, rt.alloc(), shown)?;
     }
     Ok(())
 }
@@ -271,7 +264,8 @@ fn a_fault_with_a_lock_held_breaks_the_lock(rt: HostRuntime) -> Result<(), Fail>
 /// LOCK is of lock 1.
 #[test]
 fn a_lock_out_of_order_breaks_each_lock_that_is_held(rt: HostRuntime) -> Result<(), Fail> {
-    let ran = ran(&rt, rt.alloc(), &[&LOCK_0, &LOCK_2, &LOCK_1])?;
+    let ran = ran(&rt, rt.alloc(), "LOCK_0 LOCK_2 LOCK_1")?;
+    ran.check_done(&rt);
     assert_eq!(rt; ran.blocks(), 6);
     for line in [
         "block 1 thread 0 turns 3 held 0 kind taken worker 0 pc 0010002c end wants 2",
@@ -285,7 +279,7 @@ fn a_lock_out_of_order_breaks_each_lock_that_is_held(rt: HostRuntime) -> Result<
         "lock 2 sections 1 broken 1 bytes 4",
         "lock 3 sections 0 broken 0 bytes 4",
     ] {
-        assert!(rt; ran.has_line(line), "{line}");
+        ran.check_line(&rt, line);
     }
     Ok(())
 }

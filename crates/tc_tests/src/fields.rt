@@ -1,7 +1,7 @@
 //! The smallest guest's file, with one field changed.
 
 use crate::guests::{SMALLEST, SMALLEST_REPORT};
-use crate::ran::run;
+use crate::ran::{CALM, check_run};
 use std::alloc::{AllocError, Global};
 use std::process::Abort;
 use std::sync::Wait;
@@ -98,6 +98,17 @@ fn changed(field: &Field) -> [u8; 92] {
     file
 }
 
+/// What is told of the changed file.
+fn told(refusal: Option<u32>) -> (Status, &'static str) {
+    match refusal {
+        Some(number) => {
+            let line = REFUSALS.get(number as usize).copied();
+            (Status::Refused(number), line.unwrap_or(""))
+        }
+        None => (Status::Done, SMALLEST_REPORT),
+    }
+}
+
 /// Runs the file with each of the fields changed, and compares the status and what was written.
 fn check<R: Threads + Wait + Sync + Abort>(
     rt: &R,
@@ -105,17 +116,8 @@ fn check<R: Threads + Wait + Sync + Abort>(
     fields: &[Field],
 ) -> Result<(), AllocError> {
     for field in fields {
-        let ran = run(rt, alloc, ["1", "100", "0"], &changed(field))?;
-        let (status, text) = match field.3 {
-            Some(number) => {
-                let line = REFUSALS.get(number as usize).copied();
-                (Status::Refused(number), line.unwrap_or(""))
-            }
-            None => (Status::Done, SMALLEST_REPORT),
-        };
-        let (offset, _, value, _) = *field;
-        assert_eq!(rt; ran.status, status, "{value} at {offset}");
-        assert_eq!(rt; ran.text(), text, "{value} at {offset}");
+        let file = changed(field);
+        check_run(rt, alloc, "run 1 100 0", &file, &CALM, told(field.3))?;
     }
     Ok(())
 }

@@ -1,9 +1,10 @@
 //! Gates: what each worker reports, and a worker that is held until another has come so far.
 
 use crate::demos::ONE_ROUND;
-use crate::guests::{EXIT, built, counting, counting_from};
-use crate::ran::{CALM, Outside, Ran, run_at};
+use crate::guests::{built, code_of, counting, counting_from};
+use crate::ran::{CALM, COUNTED_TO_200, LARGE, Ran, check_counted, run_at};
 use std::alloc::{AllocError, Global};
+use std::process::Abort;
 use std::sync::atomic::{AtomicBool, Ordering};
 use std::sync::{Mutex, Wait};
 use std::test::Fail;
@@ -102,24 +103,33 @@ impl<R: Wait + Sync> Gate for Watch<'_, R> {
 /// The worker that claimed a thread first.
 fn claimer(reports: &[Report], thread: u32) -> Option<u32> {
     let claimed = Point::Claimed(thread);
-    let first = reports.iter().find(|report| report.1 == claimed)?;
-    Some(first.0)
+    for (worker, point) in reports {
+        if *point == claimed {
+            return Some(*worker);
+        }
+    }
+    None
+}
+
+/// Threads 0 and 1 were claimed, each by another worker, and a worker was held in time.
+fn check_claims<R: Wait + Sync + Abort>(rt: &R, gate: &Watch<'_, R>) {
+    assert!(rt; gate.held_in_time());
+    let reports = gate.reports.lock(rt);
+    let (first, second) = (claimer(&reports, 0), claimer(&reports, 1));
+    assert!(rt; first.is_some() && second.is_some() && first != second);
 }
 
 /// Two threads are claimed by two workers: the first waits until the second has its thread.
 #[test]
 fn two_workers_claim_a_thread_each(rt: HostRuntime) -> Result<(), Fail> {
     let alloc = rt.alloc();
-    let file = built(&rt, alloc, &EXIT, &[(0, 0), (0, 0)], 0)?;
+    let code = code_of(&rt, alloc, "EXIT")?;
+    let file = built(&rt, alloc, &code, &[(0, 0), (0, 0)], 0)?;
     let gate = Watch::new(&rt, alloc, Hold::Claim);
-    let words = [b"run".as_slice(), b"2", b"100", b"4"];
-    let ran = run_at(&rt, alloc, &words, &file, &CALM, &gate)?;
-    assert_eq!(rt; ran.status, Status::Done);
+    let ran = run_at(&rt, alloc, "run 2 100 4", &file, &CALM, &gate)?;
+    ran.check_done(&rt);
     assert_eq!(rt; ran.blocks(), 2);
-    assert!(rt; gate.held_in_time());
-    let reports = gate.reports.lock(&rt);
-    let (first, second) = (claimer(&reports, 0), claimer(&reports, 1));
-    assert!(rt; first.is_some() && second.is_some() && first != second);
+    check_claims(&rt, &gate);
     Ok(())
 }
 
@@ -127,14 +137,9 @@ fn two_workers_claim_a_thread_each(rt: HostRuntime) -> Result<(), Fail> {
 #[test]
 fn two_workers_run_a_demonstration(rt: HostRuntime) -> Result<(), Fail> {
     let gate = Watch::new(&rt, rt.alloc(), Hold::Claim);
-    let words = [b"demo".as_slice(), b"1", b"2"];
-    let ran = run_at(&rt, rt.alloc(), &words, &[], &CALM, &gate)?;
-    assert_eq!(rt; ran.status, Status::Done);
-    assert_eq!(rt; ran.text(), ONE_ROUND);
-    assert!(rt; gate.held_in_time());
-    let reports = gate.reports.lock(&rt);
-    let (first, second) = (claimer(&reports, 0), claimer(&reports, 1));
-    assert!(rt; first.is_some() && second.is_some() && first != second);
+    let ran = run_at(&rt, rt.alloc(), "demo 1 2", &[], &CALM, &gate)?;
+    ran.check(&rt, Status::Done, ONE_ROUND);
+    check_claims(&rt, &gate);
     Ok(())
 }
 
@@ -158,14 +163,8 @@ fn is_line_of(alloc: Global, line: &str, point: Point) -> Result<bool, AllocErro
     Ok(line.contains(thread.as_str()) && line.ends_with(end.as_str()))
 }
 
-/// Whether the lines of a worker's blocks are those that it committed, in their order.
-fn are_reported(
-    alloc: Global,
-    ran: &Ran,
-    worker: u32,
-    reports: &[Report],
-) -> Result<bool, AllocError> {
-    let by_worker = format!(in alloc; " worker {worker} ")?;
+/// The blocks that a worker committed, in their order.
+fn committed(alloc: Global, worker: u32, reports: &[Report]) -> Result<Vec<Point>, AllocError> {
     let mut own = Vec::new(alloc);
     for (by, point) in reports {
         if let Point::Committed(_, _) = point {
@@ -174,10 +173,20 @@ fn are_reported(
             }
         }
     }
+    Ok(own)
+}
+
+/// Whether the lines that have this in them are of these blocks, one for each, in their order.
+fn are_lines_of(
+    alloc: Global,
+    ran: &Ran,
+    part: &str,
+    points: &[Point],
+) -> Result<bool, AllocError> {
     let mut count = 0;
     for line in ran.text().lines() {
-        if line.contains(by_worker.as_str()) {
-            let Some(point) = own.get(count) else {
+        if line.contains(part) {
+            let Some(point) = points.get(count) else {
                 return Ok(false);
             };
             if !is_line_of(alloc, line, *point)? {
@@ -186,7 +195,19 @@ fn are_reported(
             count += 1;
         }
     }
-    Ok(count == own.len())
+    Ok(count == points.len())
+}
+
+/// Whether the lines of a worker's blocks are those that it committed, in their order.
+fn are_reported(
+    alloc: Global,
+    ran: &Ran,
+    worker: u32,
+    reports: &[Report],
+) -> Result<bool, AllocError> {
+    let own = committed(alloc, worker, reports)?;
+    let by_worker = format!(in alloc; " worker {worker} ")?;
+    are_lines_of(alloc, ran, &by_worker, &own)
 }
 
 /// Two workers count under one lock. The worker that releases it first waits until the other thread
@@ -197,24 +218,14 @@ fn a_thread_that_waits_is_adopted(rt: HostRuntime) -> Result<(), Fail> {
     let alloc = rt.alloc();
     let file = counting(&rt, alloc, 2)?;
     let gate = Watch::new(&rt, alloc, Hold::Release);
-    let words = [b"run".as_slice(), b"2", b"2000", b"8"];
-    let outside = Outside {
-        room: 524_288,
-        ..CALM
-    };
-    let ran = run_at(&rt, alloc, &words, &file, &outside, &gate)?;
-    assert_eq!(rt; ran.status, Status::Done);
+    let ran = run_at(&rt, alloc, "run 2 2000 8", &file, &LARGE, &gate)?;
+    ran.check_done(&rt);
     assert_eq!(rt; ran.blocks(), 402);
     assert!(rt; gate.held_in_time());
-    for thread in 0..2 {
-        let line = format!(in alloc; "thread {thread} exit fuel 896 pc 00100038")?;
-        assert!(rt; ran.has_line(&line), "{line}");
-        assert_eq!(rt; ran.turns_of(alloc, thread)?, 1104);
-    }
-    let end = "lock 0 sections 200 broken 0 bytes 4\ndata 00020000 c8000000\nend\n";
-    assert!(rt; ran.text().ends_with(end));
-    let mut sections = ran.text().lines().filter(|line| line.contains(" held 0 "));
-    let second = sections.nth(1).unwrap_or("");
+    check_counted(&rt, alloc, &ran, 0)?;
+    check_counted(&rt, alloc, &ran, 1)?;
+    assert!(rt; ran.text().ends_with(COUNTED_TO_200));
+    let second = ran.second(" held 0 ");
     assert!(rt; second.contains(" kind adopted "), "{second}");
     let reports = gate.reports.lock(&rt);
     for worker in 0..2 {
@@ -255,6 +266,16 @@ fn shipments(reports: &[Report], worker: u32) -> Option<usize> {
     Some(count)
 }
 
+/// Whether all reports are of workers 0 and 1.
+fn are_of_two(reports: &[Report]) -> bool {
+    for (worker, _) in reports {
+        if *worker > 1 {
+            return false;
+        }
+    }
+    true
+}
+
 /// Workers 0 and 1 ship threads 2 and 3 alone, since threads 0 and 1 end at once. Each is shipped by
 /// the worker that ran its last block, right behind that block.
 #[test]
@@ -262,16 +283,11 @@ fn a_thread_is_shipped_behind_its_wish(rt: HostRuntime) -> Result<(), Fail> {
     let alloc = rt.alloc();
     let file = counting_from(&rt, alloc, &[(13, 0), (13, 0), (0, 0), (0, 0)])?;
     let gate = Watch::new(&rt, alloc, Hold::Release);
-    let words = [b"run".as_slice(), b"2", b"2000", b"8"];
-    let outside = Outside {
-        room: 524_288,
-        ..CALM
-    };
-    let ran = run_at(&rt, alloc, &words, &file, &outside, &gate)?;
-    assert_eq!(rt; ran.status, Status::Done);
+    let ran = run_at(&rt, alloc, "run 2 2000 8", &file, &LARGE, &gate)?;
+    ran.check_done(&rt);
     assert!(rt; gate.held_in_time());
     let reports = gate.reports.lock(&rt);
-    assert!(rt; reports.iter().all(|report| report.0 < 2));
+    assert!(rt; are_of_two(&reports));
     let by_0 = shipments(&reports, 0);
     let by_1 = shipments(&reports, 1);
     assert!(rt; by_0.is_some() && by_1.is_some(), "{by_0:?} and {by_1:?}");

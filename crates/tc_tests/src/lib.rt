@@ -5,6 +5,10 @@
 //! `cuts` and `fields` damaged files, `devices` sources and sinks that fail, `gates` what workers
 //! report, `starved` runs to which memory is refused, `nodes` runs by workers that belong to nodes,
 //! `demos` the generator's guest, `histories` replays and profiles of finished histories.
+//!
+//! Words, code and reports stand here as text, and a helper has few values of its own, so that the
+//! tests are proved soon: what a function costs grows faster than the number of its calls that may
+//! fail while it owns a value, and what a table costs faster than the number of its references.
 #![tactic(auto)]
 
 #[cfg(test)]

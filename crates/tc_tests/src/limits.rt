@@ -2,8 +2,8 @@
 //! memory was not refused is shown here alone, since no contract can say it.
 
 use crate::cases::{START, X24};
-use crate::guests::{DATA, ECALL, EXIT, KEEP, SMALLEST, built, joined};
-use crate::ran::{CALM, Outside, Ran, run, run_with};
+use crate::guests::{ECALL, SMALLEST, built, code_of};
+use crate::ran::{CALM, Outside, Ran, first_word, run, run_with};
 use std::alloc::{AllocError, Global};
 use std::process::Abort;
 use std::sync::Wait;
@@ -17,34 +17,51 @@ const X16: &str = "x16 00000000 00000003 00000000 00000000 00000000 00000000 000
 /// The numbers of workers, fuel and batch limit at their limits. `outside` has those past them.
 #[test]
 fn numbers_at_their_limits_are_run(rt: HostRuntime) -> Result<(), Fail> {
-    for (asked, line) in [
-        (["1", "100", "4"], "run workers 1 fuel 100 batch 4"),
-        (["8", "100", "4"], "run workers 8 fuel 100 batch 4"),
-        (["2", "1", "4"], "run workers 2 fuel 1 batch 4"),
-        (["2", "65536", "4"], "run workers 2 fuel 65536 batch 4"),
-        (["2", "100", "0"], "run workers 2 fuel 100 batch 0"),
-        (["2", "100", "256"], "run workers 2 fuel 100 batch 256"),
+    for (words, line) in [
+        ("run 1 100 4", "run workers 1 fuel 100 batch 4"),
+        ("run 8 100 4", "run workers 8 fuel 100 batch 4"),
+        ("run 2 1 4", "run workers 2 fuel 1 batch 4"),
+        ("run 2 65536 4", "run workers 2 fuel 65536 batch 4"),
+        ("run 2 100 0", "run workers 2 fuel 100 batch 0"),
+        ("run 2 100 256", "run workers 2 fuel 100 batch 256"),
     ] {
-        let ran = run(&rt, rt.alloc(), asked, &SMALLEST)?;
-        assert_eq!(rt; ran.status, Status::Done, "{line}");
-        assert!(rt; ran.has_line(line), "{line}");
+        let ran = run(&rt, rt.alloc(), words, &SMALLEST)?;
+        ran.check_done(&rt);
+        ran.check_line(&rt, line);
     }
     Ok(())
 }
 
 /// Takes the lock whose number is the thread's argument, stores the thread's number in the lock's
 /// guard, releases the lock and exits.
-const OWN_LOCK: [&[u32]; 6] = [
-    &KEEP,
-    // LOCK x10.
-    &[0x0010_0893, ECALL],
-    &DATA,
-    // slli x6,x8,2; add x5,x5,x6; sw x11,0(x5).
-    &[0x0024_1313, 0x0062_82b3, 0x00b2_a023],
-    // UNLOCK x8.
-    &[0x0004_0513, 0x0020_0893, ECALL],
-    &EXIT,
-];
+///
+/// Its single words are LOCK x10; slli x6,x8,2; add x5,x5,x6; sw x11,0(x5); UNLOCK x8.
+const OWN_LOCK: &str = "KEEP 00100893 ECALL DATA 00241313 006282b3 00b2a023 \
+    00040513 00200893 ECALL EXIT";
+
+/// Thread t has taken lock 31 - t.
+fn check_own_lock<R: Abort>(
+    rt: &R,
+    alloc: Global,
+    ran: &Ran,
+    thread: u32,
+) -> Result<(), AllocError> {
+    let lock = 31 - thread.min(31);
+    let start = 0x20000 + lock * 4;
+    ran.check_line(
+        rt,
+        &format!(in alloc; "thread {thread} exit fuel 88 pc 0010002c")?,
+    );
+    ran.check_line(
+        rt,
+        &format!(in alloc; "lock {lock} sections 1 broken 0 bytes 4")?,
+    );
+    ran.check_line(
+        rt,
+        &format!(in alloc; "data {start:08x} {thread:02x}000000")?,
+    );
+    Ok(())
+}
 
 /// As many threads and locks as there may be: thread t takes lock 31 - t, which is its argument.
 #[test]
@@ -54,20 +71,14 @@ fn thirty_two_threads_take_a_lock_each(rt: HostRuntime) -> Result<(), Fail> {
     for (lock, thread) in threads.iter_mut().rev().enumerate() {
         thread.1 = lock as u32;
     }
-    let code = joined(alloc, &OWN_LOCK)?;
+    let code = code_of(&rt, alloc, OWN_LOCK)?;
     let file = built(&rt, alloc, &code, &threads, 32)?;
-    let ran = run(&rt, alloc, ["1", "100", "0"], &file)?;
-    assert_eq!(rt; ran.status, Status::Done);
+    let ran = run(&rt, alloc, "run 1 100 0", &file)?;
+    ran.check_done(&rt);
     assert_eq!(rt; ran.blocks(), 96);
-    assert!(rt; ran.has_line("guest threads 32 guards 32"));
-    for (thread, (_, lock)) in threads.iter().enumerate() {
-        for line in [
-            format!(in alloc; "thread {thread} exit fuel 88 pc 0010002c")?,
-            format!(in alloc; "lock {lock} sections 1 broken 0 bytes 4")?,
-            format!(in alloc; "data {:08x} {thread:02x}000000", 0x20000 + lock % 32 * 4)?,
-        ] {
-            assert!(rt; ran.has_line(&line), "{line}");
-        }
+    ran.check_line(&rt, "guest threads 32 guards 32");
+    for thread in 0..32 {
+        check_own_lock(&rt, alloc, &ran, thread)?;
     }
     Ok(())
 }
@@ -78,33 +89,42 @@ fn slept<R: Threads + Wait + Sync + Abort>(
     rt: &R,
     alloc: Global,
     threads: &[(u32, u32)],
-    workers: &str,
-    fuel: &str,
+    words: &str,
     failing_writes: &[u64],
 ) -> Result<Ran, AllocError> {
     let mut code = vec![in alloc; ECALL; 17_001]?;
     code[0] = 0x0030_0893;
     let file = built(rt, alloc, &code, threads, 0)?;
-    let words = [b"run".as_slice(), workers.as_bytes(), fuel.as_bytes(), b"0"];
     let outside = Outside {
         most: 33_554_432,
         room: 33_554_432,
         failing_writes,
         ..CALM
     };
-    run_with(rt, alloc, &words, &file, &outside)
+    run_with(rt, alloc, words, &file, &outside)
+}
+
+/// Appends the lines of a thread that slept until its fuel was spent. Its number is in x11.
+fn push_slept(text: &mut String, thread: usize, pc: &str) -> Result<(), AllocError> {
+    write!(
+        text,
+        "\
+thread {thread} spent fuel 0 pc {pc}
+{START}
+x8 00000000 00000000 00000000 {thread:08x} 00000000 00000000 00000000 00000000
+{X16}
+{X24}
+"
+    )
 }
 
 /// The end of their report, from the last block's stamp and thread on. All threads have the same
-/// program counter, and their numbers in x11.
+/// program counter.
 fn end_of(alloc: Global, threads: usize, last: &str, pc: &str) -> Result<String, AllocError> {
-    let mut text = format!(in alloc; "block {last} turns 1 held - kind on")?;
-    write!(text, " worker 0 pc {pc} end spent\n")?;
-    for t in 0..threads {
-        write!(text, "thread {t} spent fuel 0 pc {pc}\n{START}\n")?;
-        write!(text, "x8 00000000 00000000 00000000 {t:08x}")?;
-        text.push_str(" 00000000 00000000 00000000 00000000\n")?;
-        write!(text, "{X16}\n{X24}\n")?;
+    let line = "turns 1 held - kind on worker 0";
+    let mut text = format!(in alloc; "block {last} {line} pc {pc} end spent\n")?;
+    for thread in 0..threads {
+        push_slept(&mut text, thread, pc)?;
     }
     text.push_str("end\n")?;
     Ok(text)
@@ -114,11 +134,17 @@ fn end_of(alloc: Global, threads: usize, last: &str, pc: &str) -> Result<String,
 #[test]
 fn large_reports_are_written_whole(rt: HostRuntime) -> Result<(), Fail> {
     let threads = [(0u32, 0u32); 16];
-    for (count, fuel, last, pc, bytes) in [
-        (1usize, "2000", "1999 thread 0", "00101f40", 65_536),
-        (16, "17000", "271999 thread 15", "001109a0", 16_777_216),
+    for (count, words, last, pc, bytes) in [
+        (1usize, "run 1 2000 0", "1999 thread 0", "00101f40", 65_536),
+        (
+            16,
+            "run 1 17000 0",
+            "271999 thread 15",
+            "001109a0",
+            16_777_216,
+        ),
     ] {
-        let ran = slept(&rt, rt.alloc(), &threads[..count], "1", fuel, &[])?;
+        let ran = slept(&rt, rt.alloc(), &threads[..count], words, &[])?;
         let end = end_of(rt.alloc(), count, last, pc)?;
         assert!(rt; ran.status == Status::Done && ran.written.len() > bytes);
         assert!(rt; ran.written.ends_with(end.as_bytes()), "{end}");
@@ -131,8 +157,7 @@ fn stamps_of(ran: &Ran) -> Option<usize> {
     let mut count: usize = 0;
     for line in ran.text().lines() {
         if let Some(rest) = line.strip_prefix("block ") {
-            let stamp = rest.split_once(" ").map_or("", |(stamp, _)| stamp);
-            if stamp.parse::<usize>().ok() != Some(count) {
+            if first_word(rest).parse::<usize>().ok() != Some(count) {
                 return None;
             }
             count = count.saturating_add(1);
@@ -141,35 +166,46 @@ fn stamps_of(ran: &Ran) -> Option<usize> {
     Some(count)
 }
 
+/// The threads of a large report.
+const SLEEPERS: [(u32, u32); 16] = [(0, 0); 16];
+
+/// A report of 17,600 blocks is written in order, and whole.
+fn check_large<R: Threads + Wait + Sync + Abort>(
+    rt: &R,
+    alloc: Global,
+    words: &str,
+) -> Result<(), AllocError> {
+    let ran = slept(rt, alloc, &SLEEPERS, words, &[])?;
+    ran.check_done(rt);
+    assert!(rt; ran.written.ends_with(b"\nend\n"), "{words}");
+    assert_eq!(rt; stamps_of(&ran), Some(17_600), "{words}");
+    Ok(())
+}
+
+/// The write of this piece of its history fails.
+fn check_piece<R: Threads + Wait + Sync + Abort>(
+    rt: &R,
+    alloc: Global,
+    words: &str,
+    piece: u32,
+) -> Result<(), AllocError> {
+    let failing = [u64::from(piece) + 1];
+    let ran = slept(rt, alloc, &SLEEPERS, words, &failing)?;
+    assert_eq!(rt; ran.status, Status::WriteFault, "{words}, piece {piece}");
+    let blocks = (piece as usize).saturating_mul(4_096);
+    assert_eq!(rt; stamps_of(&ran), Some(blocks), "{words}, piece {piece}");
+    Ok(())
+}
+
 /// Several workers write a report of 17,600 blocks in order, and whole. Its history is written in pieces
 /// of 4,096 blocks behind the first three lines; where one of these writes fails, all workers end, and
 /// what was written before stays.
 #[test]
 fn several_workers_write_a_large_report(rt: HostRuntime) -> Result<(), Fail> {
-    let threads = [(0u32, 0u32); 16];
-    for workers in ["2", "8"] {
-        let ran = slept(&rt, rt.alloc(), &threads, workers, "1100", &[])?;
-        assert!(rt;
-            ran.status == Status::Done && ran.written.ends_with(b"\nend\n"),
-            "{workers}"
-        );
-        assert_eq!(rt; stamps_of(&ran), Some(17_600), "{workers}");
-        for piece in [0usize, 3] {
-            let ran = slept(
-                &rt,
-                rt.alloc(),
-                &threads,
-                workers,
-                "1100",
-                &[piece as u64 + 1],
-            )?;
-            assert_eq!(rt; ran.status, Status::WriteFault, "{workers}, piece {piece}");
-            assert_eq!(rt;
-                stamps_of(&ran),
-                Some(piece * 4_096),
-                "{workers}, piece {piece}"
-            );
-        }
+    for words in ["run 2 1100 0", "run 8 1100 0"] {
+        check_large(&rt, rt.alloc(), words)?;
+        check_piece(&rt, rt.alloc(), words, 0)?;
+        check_piece(&rt, rt.alloc(), words, 3)?;
     }
     Ok(())
 }

@@ -1,8 +1,8 @@
 //! Runs by workers that belong to nodes.
 
-use crate::guests::{ADD, DATA, EXIT, LOCK_0, UNLOCK_0, built, counting, joined};
-use crate::ran::{CALM, Outside, Ran, run_at, run_with};
-use std::alloc::Global;
+use crate::guests::{built, code_of, counting};
+use crate::ran::{CALM, COUNTED_TO_200, LARGE, run_at, run_with};
+use std::alloc::{AllocError, Global};
 use std::process::Abort;
 use std::sync::atomic::{AtomicBool, Ordering};
 use std::sync::{Mutex, Wait};
@@ -10,7 +10,6 @@ use std::test::Fail;
 use std::thread::{Threads, yield_now};
 use tc_journal::block::End;
 use tc_main::gate::{Gate, Point};
-use tc_main::status::Status;
 
 /// How often a held worker looks whether it may go on. Where workers do not come as they should, a
 /// worker comes to this limit, and the test fails there.
@@ -23,30 +22,56 @@ type Report = (u32, Point);
 /// thread. Worker 0 then runs its thread's section, and ends it only when worker 1 and after it
 /// worker 2 have shipped theirs.
 fn may_go_on(reports: &[Report], worker: u32, point: Point) -> bool {
-    let shipped_by = |by: u32| {
-        reports.iter().any(|report| match report.1 {
-            Point::Shipped(_) => report.0 == by,
-            _ => false,
-        })
-    };
     match (worker, point) {
-        (0, Point::Claimed(_)) => (0..3).all(|by| claimed_by(reports, by).is_some()),
-        (0, Point::Committed(_, End::Unlocked(0))) => shipped_by(2),
-        (1, Point::Claimed(_)) => reports.iter().any(|report| match report.1 {
-            Point::Committed(_, end) => end == End::Unlocked(0),
-            _ => false,
-        }),
-        (2, Point::Claimed(_)) => shipped_by(1),
+        (0, Point::Claimed(_)) => have_claimed(reports),
+        (0, Point::Committed(_, End::Unlocked(0))) => has_shipped(reports, 2),
+        (1, Point::Claimed(_)) => is_released(reports),
+        (2, Point::Claimed(_)) => has_shipped(reports, 1),
         _ => true,
     }
 }
 
 /// The thread that a worker claimed first.
 fn claimed_by(reports: &[Report], worker: u32) -> Option<u32> {
-    reports.iter().find_map(|report| match report.1 {
-        Point::Claimed(thread) if report.0 == worker => Some(thread),
-        _ => None,
-    })
+    for (by, point) in reports {
+        if let Point::Claimed(thread) = *point {
+            if *by == worker {
+                return Some(thread);
+            }
+        }
+    }
+    None
+}
+
+/// Whether each of the three workers has claimed a thread.
+fn have_claimed(reports: &[Report]) -> bool {
+    claimed_by(reports, 0).is_some()
+        && claimed_by(reports, 1).is_some()
+        && claimed_by(reports, 2).is_some()
+}
+
+/// Whether a worker has shipped a thread.
+fn has_shipped(reports: &[Report], worker: u32) -> bool {
+    for (by, point) in reports {
+        if let Point::Shipped(_) = point {
+            if *by == worker {
+                return true;
+            }
+        }
+    }
+    false
+}
+
+/// Whether lock 0 was released.
+fn is_released(reports: &[Report]) -> bool {
+    for (_, point) in reports {
+        if let Point::Committed(_, end) = *point {
+            if end == End::Unlocked(0) {
+                return true;
+            }
+        }
+    }
+    false
 }
 
 /// Keeps all reports, holds each worker until it may go on, and notes whether one came to the limit.
@@ -70,53 +95,52 @@ impl<R: Wait + Sync> Gate for Usher<'_, R> {
     }
 }
 
-/// Three workers of two nodes, of which worker 1 is alone on its node, run three threads of one
-/// section each. Worker 0 releases the lock while worker 1's thread waits for it, and behind that
-/// worker 2's. Answers by which worker the thread of the next section was shipped.
-fn served_first<R: Abort + Threads + Wait + Sync>(
-    rt: &R,
-    alloc: Global,
-    bound: &[u8],
-) -> Result<u32, Fail> {
-    let code = joined(alloc, &[&DATA, &LOCK_0, &ADD, &UNLOCK_0, &EXIT])?;
-    let file = built(rt, alloc, &code, &[(0, 0), (0, 0), (0, 0)], 1)?;
-    let gate = Usher {
-        rt,
-        reports: Mutex::new(Vec::new(alloc)),
-        gave_up: AtomicBool::new(false),
-    };
-    let words = [b"nodes".as_slice(), b"2", bound, b"3", b"100", b"8"];
-    let ran = run_at(rt, alloc, &words, &file, &CALM, &gate)?;
-    assert_eq!(rt; ran.status, Status::Done);
-    assert!(rt; !gate.gave_up.load(Ordering::SeqCst));
-    let mut sections = ran.text().lines().filter(|line| line.contains(" held 0 "));
-    let second = sections.nth(1).unwrap_or("");
-    let reports = gate.reports.lock(rt);
+/// Which of workers 1 and 2 shipped the thread whose adopted section this line shows, and 0 where
+/// neither did.
+fn shipper(alloc: Global, reports: &[Report], line: &str) -> Result<u32, AllocError> {
     for worker in 1..3 {
-        let thread = claimed_by(&reports, worker).unwrap_or(0);
+        let thread = claimed_by(reports, worker).unwrap_or(0);
         let name = format!(in alloc; " thread {thread} turns 7 held 0 kind adopted worker 0 ")?;
-        if second.contains(name.as_str()) {
+        if line.contains(name.as_str()) {
             return Ok(worker);
         }
     }
     Ok(0)
 }
 
+/// Three workers of two nodes, of which worker 1 is alone on its node, run three threads of one
+/// section each. Worker 0 releases the lock while worker 1's thread waits for it, and behind that
+/// worker 2's. Answers by which worker the thread of the next section was shipped.
+fn served_first<R: Abort + Threads + Wait + Sync>(
+    rt: &R,
+    alloc: Global,
+    bound: u32,
+) -> Result<u32, Fail> {
+    let code = code_of(rt, alloc, "DATA LOCK_0 ADD UNLOCK_0 EXIT")?;
+    let file = built(rt, alloc, &code, &[(0, 0), (0, 0), (0, 0)], 1)?;
+    let gate = Usher {
+        rt,
+        reports: Mutex::new(Vec::new(alloc)),
+        gave_up: AtomicBool::new(false),
+    };
+    let words = format!(in alloc; "nodes 2 {bound} 3 100 8")?;
+    let ran = run_at(rt, alloc, &words, &file, &CALM, &gate)?;
+    ran.check_done(rt);
+    assert!(rt; !gate.gave_up.load(Ordering::SeqCst));
+    let reports = gate.reports.lock(rt);
+    let second = ran.second(" held 0 ");
+    Ok(shipper(alloc, &reports, second)?)
+}
+
 /// A waiter of the releaser's node comes before an older one of another node, but only where the
 /// bound lets the older one be passed over.
 #[test]
 fn a_waiter_of_the_node_is_preferred_within_the_bound(rt: HostRuntime) -> Result<(), Fail> {
-    for (bound, worker) in [(b"0".as_slice(), 1), (b"1", 2)] {
+    for (bound, worker) in [(0, 1), (1, 2)] {
         let first = served_first(&rt, rt.alloc(), bound)?;
         assert_eq!(rt; first, worker);
     }
     Ok(())
-}
-
-/// Whether the report ends as that of two threads that counted to 100 each.
-fn counted_to_200(ran: &Ran) -> bool {
-    let end = "lock 0 sections 200 broken 0 bytes 4\ndata 00020000 c8000000\nend\n";
-    ran.text().ends_with(end)
 }
 
 /// Threads count right by any number of nodes, with any bound.
@@ -124,23 +148,17 @@ fn counted_to_200(ran: &Ran) -> bool {
 fn counts_by_nodes(rt: HostRuntime) -> Result<(), Fail> {
     let alloc = rt.alloc();
     let file = counting(&rt, alloc, 2)?;
-    let outside = Outside {
-        room: 524_288,
-        ..CALM
-    };
-    let asked: [[&[u8]; 3]; 5] = [
-        [b"2", b"4", b"4"],
-        [b"1", b"0", b"1"],
-        [b"1", b"256", b"2"],
-        [b"2", b"0", b"2"],
-        [b"8", b"256", b"8"],
-    ];
-    for [nodes, bound, workers] in asked {
-        let words = [b"nodes".as_slice(), nodes, bound, workers, b"2000", b"8"];
-        let ran = run_with(&rt, alloc, &words, &file, &outside)?;
-        assert_eq!(rt; ran.status, Status::Done);
+    for words in [
+        "nodes 2 4 4 2000 8",
+        "nodes 1 0 1 2000 8",
+        "nodes 1 256 2 2000 8",
+        "nodes 2 0 2 2000 8",
+        "nodes 8 256 8 2000 8",
+    ] {
+        let ran = run_with(&rt, alloc, words, &file, &LARGE)?;
+        ran.check_done(&rt);
         assert_eq!(rt; ran.blocks(), 402);
-        assert!(rt; counted_to_200(&ran));
+        assert!(rt; ran.text().ends_with(COUNTED_TO_200));
     }
     Ok(())
 }

@@ -1,14 +1,15 @@
 //! Runs to which memory is refused in their middle. A gate takes all memory that there is, in pieces
 //! to which nobody writes, so that the host has to give next to none of it.
 
-use crate::guests::{ADD, DATA, ECALL, LOCK_0, SMALLEST, SMALLEST_REPORT, UNLOCK_0, built, joined};
-use crate::histories::EXITS;
-use crate::ran::{CALM, run_at, run_with};
+use crate::guests::{SMALLEST_REPORT, built, code_of};
+use crate::histories::exited;
+use crate::ran::{CALM, check_run, run_at};
 use std::alloc::{AllocError, Global};
 use std::process::Abort;
 use std::sync::atomic::{AtomicU32, Ordering};
 use std::sync::{Mutex, Wait};
 use std::test::Fail;
+use std::thread::Threads;
 use tc_main::gate::{Gate, Point};
 use tc_main::status::Status;
 
@@ -89,42 +90,40 @@ impl<R: Wait + Sync> Gate for Hungry<'_, R> {
 /// A guest of eight threads that have sections under one lock until their fuel is spent: four add to
 /// a word there, and four sleep. Behind the words of a section stands jal x0,-36.
 fn endless<R: Abort>(rt: &R, alloc: Global) -> Result<Vec<u8>, AllocError> {
-    let pieces: [&[u32]; 8] = [
-        &DATA,
-        &LOCK_0,
-        &ADD,
-        &UNLOCK_0,
-        &[0xfddf_f06f],
-        &LOCK_0,
-        &[0x0010_0513, 0x0030_0893, ECALL],
-        &UNLOCK_0,
-    ];
-    let mut code = joined(alloc, &pieces)?;
-    code.push(0xfddf_f06f)?;
+    let text = "DATA LOCK_0 ADD UNLOCK_0 fddff06f LOCK_0 00100513 00300893 ECALL UNLOCK_0 fddff06f";
+    let code = code_of(rt, alloc, text)?;
     let (adds, sleeps) = ((0, 0), (11, 0));
     let threads = [adds, sleeps, adds, sleeps, adds, sleeps, adds, sleeps];
     built(rt, alloc, &code, &threads, 1)
+}
+
+/// A run to which memory is refused in its middle ends, and nothing is written.
+fn check_refused<R: Threads + Wait + Sync + Abort>(
+    rt: &R,
+    alloc: Global,
+    words: &str,
+) -> Result<(), AllocError> {
+    let file = endless(rt, alloc)?;
+    let gate = Hungry {
+        rt,
+        alloc,
+        blocks: AtomicU32::new(0),
+        pieces: Mutex::new(Vec::with_capacity(alloc, MOST_PIECES)?),
+    };
+    let ran = run_at(rt, alloc, words, &file, &CALM, &gate)?;
+    ran.check(rt, Status::OutOfMemory, "");
+    assert!(rt; gate.blocks.load(Ordering::SeqCst) > PLENTY);
+    Ok(())
 }
 
 /// Whatever number of workers there is, memory that is refused in the middle of a run ends it: all
 /// workers stop, nothing is written, and the next run finds all memory that there was.
 #[test]
 fn refused_memory_ends_a_run(rt: HostRuntime) -> Result<(), Fail> {
-    let alloc = rt.alloc();
-    for workers in ["1", "2", "3", "4", "5", "6", "7", "8"] {
-        let file = endless(&rt, alloc)?;
-        let words = [b"run".as_slice(), workers.as_bytes(), b"65536", b"1"];
-        let gate = Hungry {
-            rt: &rt,
-            alloc,
-            blocks: AtomicU32::new(0),
-            pieces: Mutex::new(Vec::with_capacity(alloc, MOST_PIECES)?),
-        };
-        let ran = run_at(&rt, alloc, &words, &file, &CALM, &gate)?;
-        assert_eq!(rt; ran.status, Status::OutOfMemory, "{workers} workers");
-        assert_eq!(rt; ran.status.number(), 5);
-        assert!(rt; ran.written.is_empty());
-        assert!(rt; gate.blocks.load(Ordering::SeqCst) > PLENTY);
+    assert_eq!(rt; Status::OutOfMemory.number(), 5);
+    for workers in 1..=8 {
+        let words = format!(in rt.alloc(); "run {workers} 65536 1")?;
+        check_refused(&rt, rt.alloc(), &words)?;
     }
     Ok(())
 }
@@ -134,16 +133,13 @@ fn refused_memory_ends_a_run(rt: HostRuntime) -> Result<(), Fail> {
 #[test]
 fn a_short_input_takes_little_memory(rt: HostRuntime) -> Result<(), Fail> {
     let alloc = rt.alloc();
-    let mut bytes = Vec::from_slice(alloc, &SMALLEST)?;
-    bytes.extend_from_slice(EXITS.as_bytes())?;
+    let bytes = exited(alloc)?;
     let mut pieces = Vec::with_capacity(alloc, MOST_PIECES)?;
     for size in &SIZES[..10] {
         take_pieces(alloc, &mut pieces, *size);
     }
     assert!(rt; Vec::<u8>::with_capacity(alloc, 0x0400_0000).is_err());
-    let words = [b"replay".as_slice(), b"92", b"1", b"100", b"0"];
-    let ran = run_with(&rt, alloc, &words, &bytes, &CALM)?;
-    assert_eq!(rt; ran.status, Status::Done);
-    assert_eq!(rt; ran.text(), SMALLEST_REPORT);
+    let told = (Status::Done, SMALLEST_REPORT);
+    check_run(&rt, alloc, "replay 92 1 100 0", &bytes, &CALM, told)?;
     Ok(())
 }
