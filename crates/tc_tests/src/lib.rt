@@ -6,9 +6,8 @@
 //! report, `starved` runs to which memory is refused, `nodes` runs by workers that belong to nodes,
 //! `demos` the generator's guest, `histories` replays and profiles of finished histories.
 //!
-//! Words, code and reports stand here as text, and a helper has few values of its own, so that the
-//! tests are proved soon: what a function costs grows faster than the number of its calls that may
-//! fail while it owns a value, and what a table costs faster than the number of its references.
+//! Words, code and reports stand here as text. No table holds slices of slices, or structs with an
+//! array among their fields: the prover takes many times as long for such a table.
 #![tactic(auto)]
 
 #[cfg(test)]
