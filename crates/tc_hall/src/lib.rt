@@ -3,7 +3,7 @@
 //! A hall is one table of words and slots that the workers share. With its pass a worker takes
 //! packages and lock states out of their slots, seals the blocks that it ran, and puts back what it
 //! has out. Each call takes effect in one step on one word; none waits for another, and after `new`
-//! none takes memory.
+//! none can be refused memory.
 //!
 //! The layer above is promised, whoever steps when: each package and each lock state is in one
 //! place; what a pass takes is as it was put; and the blocks that all passes sealed are, in the

@@ -8,7 +8,7 @@
 //! The layer above is promised that each offer is taken at most once, by whom ever; that an offer
 //! is refused exactly where the room for offers is used up; and that no thread is proposed but by an
 //! offer that was taken or a word that was seen, in a call that adds looks alone to the pass's
-//! list. No call but `crew` takes memory, and none waits.
+//! list. No call but `crew` can be refused memory, and none waits.
 //!
 //! - `specs/Rule.antt`: what holds of one deque between any two steps. `specs/Law.antt`: what
 //!   follows of its offers. `specs/EndView.antt`, `specs/ReadyView.antt`: ends and workers as
