@@ -31,7 +31,7 @@ use Rattle.tc_hall.specs.declared.board.Cargo.TheVariants.{Package, Lock}
 use Rattle.tc_hall.specs.Places.{code_of, place_of, slot_word}
 use Rattle.tc_hall.specs.Rule.{Has, HasLock, IsInOrder, grants_adopted, is_pinned, last_by, locked_in, clean, threads}
 use Rattle.tc_hall.specs.Outs.{outs, erase, Pack, Loose, IsOut, CameOut, Called}
-use Rattle.tc_hall.specs.PassView.{PassView}
+use Rattle.tc_hall.specs.PassView.{HallView, PassView}
 
 abbrev pub At : Type 0
 At = Step (Option Cargo)
@@ -302,6 +302,12 @@ HasSeenAll n v = (t : ℕ) → t < n → (i : ℕ) × (get_elem? v.calls i ≡ s
 -- each worker is the pass's own or was joined
 abbrev pub HasAll : ℕ → Knows → Type 0
 HasAll workers v = (u : ℕ) → u < workers → (u ≡ v.worker) ⊎ ((e : ℕ) × (get_elem? v.joined e ≡ some u))
+
+-- the pass is the last of its hall: each other was joined into it, and nothing is out
+pub record IsLast (hall : HallView) (p : PassView) : Type 0 where
+  pub own : p.table ≡ hall.table
+  pub all : HasAll hall.terms.workers p.knows
+  pub free : IsFree p.knows
 
 -- the packages and lock states in order, at the end, where this was the last pass
 pub record IsEnd (k : HallTerms) (v : Knows) (qs : List PackageView) (ls : List LockView) : Type 0 where

@@ -8,7 +8,7 @@ ghost use Rattle.tc_context.specs.View.{IsWaiting, with_seal};
 ghost use Rattle.tc_hall.specs.declared.place.TheConstants.{WAITING};
 ghost use Rattle.tc_hall.specs.Places.{IsInRange, origin_code, slot_word};
 ghost use Rattle.tc_hall.specs.Rule.{threads, locks};
-ghost use Rattle.tc_hall.specs.Steps.{IsSamePass, IsPackage, IsLock, HoldsPackage, HoldsLock, Gets, MayPut, Gave, IsAsLeft, IsStateAsLeft, Missed, Takes, MayFree, Freed, Seals, DidSeal, after_look, after_stop, SawStopped, merged, IsFree, HasAll, HasSeenAll, IsEnd};
+ghost use Rattle.tc_hall.specs.Steps.{IsSamePass, IsPackage, IsLock, HoldsPackage, HoldsLock, Gets, MayPut, Gave, IsAsLeft, IsStateAsLeft, Missed, Takes, MayFree, Freed, Seals, DidSeal, after_look, after_stop, SawStopped, merged, IsFree, IsLast, HasSeenAll, IsEnd};
 ghost use Rattle.tc_hall.specs.Order.{IsClaimable};
 ghost use Rattle.tc_hall.specs.Made.{IsHallOf, AreDealt, AreStocked};
 
@@ -204,9 +204,7 @@ impl Hall {
     /// the history of all sealed blocks leaves them: the stamps in the logs are the numbers from 0
     /// on, each once. Each lock state is strict. It goes over the slots, and takes no memory.
     pub fn close(self, pass: Pass) -> Closed
-        requires own { pass.table ≡ self.table }
-        requires all { HasAll self.terms.workers pass.knows }
-        requires free { IsFree pass.knows }
+        requires last { IsLast self pass }
         requires done { HasSeenAll (threads self.terms) pass.knows }
         ensures { IsEnd self.terms pass.knows result.packages result.locks }
     {
@@ -234,9 +232,7 @@ impl Hall {
 
     /// Ends the hall before its threads have ended, and drops all packages and lock states.
     pub fn abandon(self, pass: Pass)
-        requires own { pass.table ≡ self.table }
-        requires all { HasAll self.terms.workers pass.knows }
-        requires free { IsFree pass.knows }
+        requires { IsLast self pass }
     {
         drop(pass);
         drop(self);

@@ -23,7 +23,7 @@ pub package_of-requires : goal.package_of-requires
 package_of-requires c =
     let key = c.self.inside.board.shared.key in
     let v = c.pass.inside.seat.me.0 in
-    let asked : Asked key v = subst (λ (z : HallView × PassView). Asked z.0.terms z.1.knows) (λ i. (sym c.self.view_is i, sym c.pass.view_is i)) (c.requires.done, c.requires.all, c.requires.free) in
+    let asked : Asked key v = subst (λ (z : HallView × PassView). Asked z.0.terms z.1.knows) (λ i. (sym c.self.view_is i, sym c.pass.view_is i)) (c.requires.done, c.requires.last.all, c.requires.last.free) in
     some_package key c.pass.inside.seat.id v _ _ c.close_with-closed.ensures.values.2 c.pass.invariant.3 asked.0 asked.1 asked.2 c.loop-t.t c.into_cargo.result (let m = c.self.invariant.0 in omega arith)
     (ap (λ (l : List (Option Cargo)). get_elem? l c.loop-t.t) (sym c.loop-t.invariant.same) ∙ (c.take.ensures.value ∙ ap (λ (z : Option Cargo). some z) (sym c.into_cargo.ensures)))
 
@@ -68,7 +68,7 @@ pub lock_of-requires : goal.lock_of-requires
 lock_of-requires c =
     let key = c.self.inside.board.shared.key in
     let v = c.pass.inside.seat.me.0 in
-    let asked : Asked key v = subst (λ (z : HallView × PassView). Asked z.0.terms z.1.knows) (λ i. (sym c.self.view_is i, sym c.pass.view_is i)) (c.requires.done, c.requires.all, c.requires.free) in
+    let asked : Asked key v = subst (λ (z : HallView × PassView). Asked z.0.terms z.1.knows) (λ i. (sym c.self.view_is i, sym c.pass.view_is i)) (c.requires.done, c.requires.last.all, c.requires.last.free) in
     let at = ap (λ (l : List (Option Cargo)). get_elem? l (c.self.inside.threads + c.loop-i.i)) (sym c.loop-t.invariant.same ∙ sym c.loop-i.invariant.same) ∙ (c.take-in-loop-i.ensures.value ∙ ap (λ (z : Option Cargo). some z) (sym c.into_cargo-in-loop-i.ensures)) in
     some_lock key c.pass.inside.seat.id v _ _ c.close_with-closed.ensures.values.2 c.pass.invariant.3 asked.0 asked.1 asked.2 c.loop-i.i c.into_cargo-in-loop-i.result (let m = c.self.invariant.3 in omega arith)
     (subst (λ (z : ℕ). get_elem? (slots_items c.close_with-closed.result.slots) (z + c.loop-i.i) ≡ some c.into_cargo-in-loop-i.result) c.self.invariant.0 at)
@@ -104,7 +104,7 @@ pub returns : goal.returns
 returns c =
     let key = c.self.inside.board.shared.key in
     let v = c.pass.inside.seat.me.0 in
-    let asked : Asked key v = subst (λ (z : HallView × PassView). Asked z.0.terms z.1.knows) (λ i. (sym c.self.view_is i, sym c.pass.view_is i)) (c.requires.done, c.requires.all, c.requires.free) in
+    let asked : Asked key v = subst (λ (z : HallView × PassView). Asked z.0.terms z.1.knows) (λ i. (sym c.self.view_is i, sym c.pass.view_is i)) (c.requires.done, c.requires.last.all, c.requires.last.free) in
     let n : c.loop-t.t ≡ threads key = (let b = c.loop-t.auto.t-end in let z = c.loop-t-test.false in let m = c.self.invariant.0 in omega arith) in
     let m : c.loop-i.i ≡ locks key = (let b = c.loop-i.auto.i-end in let z = c.loop-i-test.false in let m = c.self.invariant.3 in omega arith) in
     let taken = subst (λ (z : ℕ). AreTaken (λ (q : PackageView). Package q) 0 z (slots_items c.close_with-closed.result.slots) c.loop-t.packages.items) n c.loop-t.invariant.taken in
