@@ -7,12 +7,16 @@ use std::time::Duration;
 
 /// After so many blocks a worker has found enough to do, and its next pause is short. A thread that
 /// it takes only to ship it at its next lock makes one or two.
-const ENOUGH: u64 = 200;
+const ENOUGH: u64 = 2_000;
 
-/// How long the first sleep is at most, in microseconds, and how long each is.
-const SHORTEST: u64 = 25;
+/// How long the first sleep is at most, in microseconds.
+const SHORTEST: u64 = 200;
 
-const LONGEST: u64 = 1_600;
+/// How long each sleep is at most, in microseconds.
+const LONGEST: u64 = 12_800;
+
+/// How long a recess is, in microseconds.
+const RECESS: u64 = 1_600;
 
 /// Behind so many threads in a row that have slept a worker may take a recess.
 const ROW: u64 = 1_024;
@@ -20,11 +24,11 @@ const ROW: u64 = 1_024;
 /// It takes one if more than so many workers are up.
 const FEW: u64 = 2;
 
-/// The idle backoff of a worker. Where it finds nothing, it spins at first, or gives its processor
-/// away; then it sleeps, each time twice as long, so that it leaves the others alone, but never for two
-/// milliseconds. Nobody waits for such a worker: it has nothing in hand, and whoever makes a thread
-/// ready goes on with it, if no other does. Where it finds nothing but threads that have slept, it
-/// takes a recess now and then, if others are up: such threads mostly wait for what others do, and
+/// The idle back-off of a worker. Where it finds nothing, it spins at first, or gives its processor
+/// away; then it sleeps, each time twice as long, so that it leaves the others alone, but never for
+/// thirteen milliseconds. Nobody waits for such a worker: it has nothing in hand, and whoever makes a
+/// thread ready goes on with it, if no other does. Where it finds nothing but threads that have slept,
+/// it takes a recess now and then, if others are up: such threads mostly wait for what others do, and
 /// with blocks as short as theirs workers take the clock from one another more than they do else. In a
 /// recess it has a thread in hand, which may have slept inside a section: then whoever waits for a
 /// lock of that thread waits as much longer as the recess is long. Pauses have no meaning, so every
@@ -96,7 +100,7 @@ impl<'a> Idling<'a> {
         if self.missing == 0 {
             self.asked = false;
             self.missing = ROW;
-            return self.bell.sleep(rt, Duration::from_micros(LONGEST));
+            return self.bell.sleep(rt, Duration::from_micros(RECESS));
         }
         if now.saturating_sub(self.paused_at) >= ENOUGH {
             self.backoff.reset();
