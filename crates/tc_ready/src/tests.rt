@@ -65,8 +65,8 @@ fn offers_are_stolen(rt: HostRuntime) -> Result<(), Fail> {
     Ok(())
 }
 
-/// What the last of a crew of three finds, where each of the two others offers a thread, the second
-/// one first: that of deque 0, then that of deque 1, and then what a scan finds.
+/// What the last of a crew of four finds, where each of the three others offers a thread, the last one
+/// first: that of deque 0, then those of the deques 1 and 2, and then what a scan finds.
 fn see_order<R: Abort>(
     rt: &R,
     hall: &Hall,
@@ -74,32 +74,45 @@ fn see_order<R: Abort>(
     first: &mut Ready,
     second: &mut Ready,
     third: &mut Ready,
+    fourth: &mut Ready,
 )
     requires own { pass.old.table ≡ hall.now.table }
     requires hall { threads hall.now.terms ≡ 4 }
-    requires offering { (first.old.threads ≡ 4) × (second.old.threads ≡ 4) }
-    requires third { third.old.threads ≡ 4 }
+    requires offering { (first.old.threads ≡ 4) × (second.old.threads ≡ 4) × (third.old.threads ≡ 4) }
+    requires fourth { fourth.old.threads ≡ 4 }
 {
+    assert!(rt; third.offer(1));
     assert!(rt; second.offer(2));
     assert!(rt; first.offer(3));
-    assert_eq!(rt; third.next(hall, pass), Some(3));
-    assert_eq!(rt; third.next(hall, pass), Some(2));
-    assert_eq!(rt; third.next(hall, pass), Some(0));
+    assert_eq!(rt; fourth.next(hall, pass), Some(3));
+    assert_eq!(rt; fourth.next(hall, pass), Some(2));
+    assert_eq!(rt; fourth.next(hall, pass), Some(1));
+    assert_eq!(rt; fourth.next(hall, pass), Some(0));
 }
 
 #[test]
 fn the_deque_of_the_least_number_is_tried_first(rt: HostRuntime) -> Result<(), Fail> {
     let image = one(rt.alloc())?;
     assert_eq!(rt; image.threads(), 4);
-    let (hall, mut passes) = Hall::new(rt.alloc(), &image, 100, 3, 4)?;
-    let mut crew = Ready::crew(rt.alloc(), 3, 4, 1)?;
+    let (hall, mut passes) = Hall::new(rt.alloc(), &image, 100, 4, 4)?;
+    let mut crew = Ready::crew(rt.alloc(), 4, 4, 1)?;
     let mut pass = passes.pop().expect(&rt, "a pass");
+    let mut fourth = crew.pop().expect(&rt, "the fourth worker");
     let mut third = crew.pop().expect(&rt, "the third worker");
     let mut second = crew.pop().expect(&rt, "the second worker");
     let mut first = crew.pop().expect(&rt, "the first worker");
     assert_eq!(rt; first.threads(), 4);
     assert_eq!(rt; second.threads(), 4);
     assert_eq!(rt; third.threads(), 4);
-    see_order(&rt, &hall, &mut pass, &mut first, &mut second, &mut third);
+    assert_eq!(rt; fourth.threads(), 4);
+    see_order(
+        &rt,
+        &hall,
+        &mut pass,
+        &mut first,
+        &mut second,
+        &mut third,
+        &mut fourth,
+    );
     Ok(())
 }
