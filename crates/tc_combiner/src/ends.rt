@@ -119,16 +119,16 @@ pub(crate) fn ended_with<R: Wait, Q: Waiters>(
     parts: &mut DeskParts,
     seats: &mut [Q::Seat],
     mut package: Package,
-    block: &Block,
+    block: Block,
 ) -> Settled
     requires parts { MayAct shared.now.hall.now (Pack «package» ∷ packed parts.old.aside) MAX_HELD parts.old }
-    requires may { MayEnd shared.now.hall.now.terms parts.old.pass.knows block.now «package» }
+    requires may { MayEnd shared.now.hall.now.terms parts.old.pass.knows block «package» }
     requires seats { HasSeats Q.queue Q.seen shared.now.hall.now.terms shared.now.queues.now seats.old }
-    ensures { Ends shared.now.hall.now.terms block.now «package»
+    ensures { Ends shared.now.hall.now.terms block «package»
         (change (map Q.seen seats.old) (map Q.seen seats.new)) (change parts.old parts.new) result }
 {
     package.keeps();
-    if end_all(rt, shared, parts, seats, &mut package, block) {
+    if end_all(rt, shared, parts, seats, &mut package, &block) {
         put_all_back(shared.hall, parts, package);
         return Settled::Stopped;
     }

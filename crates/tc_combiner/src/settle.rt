@@ -18,7 +18,7 @@ use crate::settled::Settled;
 use crate::unlock::unlocked_with;
 use std::sync::Wait;
 use tc_context::package::Package;
-use tc_journal::block::End;
+use tc_journal::block::{Block, End};
 use tc_queue::Waiters;
 
 /// What `acquire` does, at the lock's place in the bench.
@@ -50,20 +50,28 @@ fn unlocked_at<R: Wait, Q: Waiters>(
     parts: &mut DeskParts,
     seats: &mut [Q::Seat],
     package: Package,
-    released: Released<'_>,
+    lock: u32,
+    block: Block,
 ) -> Settled
     requires parts { MayAct shared.now.hall.now (Pack «package» ∷ packed parts.old.aside) 2 parts.old }
-    requires may { MayUnlock shared.now.hall.now.terms parts.old.pass.knows
-        released.lock released.block.now «package» }
+    requires may { MayUnlock shared.now.hall.now.terms parts.old.pass.knows lock block «package» }
     requires seats { HasSeats Q.queue Q.seen shared.now.hall.now.terms shared.now.queues.now seats.old }
-    ensures { AtSeat released.entry.lock (map Q.seen seats.old) (map Q.seen seats.new)
-        (λ s t. Unlocks shared.now.hall.now.terms released.entry.lock released.entry.block.now «package»
+    ensures { AtSeat lock (map Q.seen seats.old) (map Q.seen seats.new)
+        (λ s t. Unlocks shared.now.hall.now.terms lock block «package»
         (change s t) (change parts.old parts.new) result) }
 {
-    let lock = released.lock;
     let queue = &shared.queues[lock as usize];
     let seat = &mut seats[lock as usize];
-    unlocked_with(rt, shared.hall, parts, queue, seat, package, released)
+    let block = &block;
+    unlocked_with(
+        rt,
+        shared.hall,
+        parts,
+        queue,
+        seat,
+        package,
+        Released { lock, block },
+    )
 }
 
 /// What `settle` does, over the parts of a desk.
@@ -92,8 +100,8 @@ pub(crate) fn settle_with<R: Wait, Q: Waiters>(
     match end {
         End::Wants(lock) => acquire_at(rt, shared, parts, seats, package, lock),
         End::Unlocked(lock) => {
-            let block = &package.last();
-            unlocked_at(rt, shared, parts, seats, package, Released { lock, block })
+            let block = package.last();
+            unlocked_at(rt, shared, parts, seats, package, lock, block)
         }
         End::Slept => {
             park(shared.hall, parts, sleeping, package);
@@ -103,7 +111,7 @@ pub(crate) fn settle_with<R: Wait, Q: Waiters>(
         // An exit, a fault, or spent fuel.
         _ => {
             let block = package.last();
-            ended_with(rt, shared, parts, seats, package, &block)
+            ended_with(rt, shared, parts, seats, package, block)
         }
     }
 }

@@ -27,16 +27,16 @@ unlocked_at-requires-clause-parts g c = λ κs b. may_begin c.args.shared.now.ha
 
 pub unlocked_at-requires-clause-may : goal.unlocked_at-requires-clause-may
 unlocked_at-requires-clause-may g c = λ κs b.
-    let block = c.last.result in
-    let after = after_last c.args.shared.now.hall.now.terms.image.value c.args.parts.now.pass.knows.worker c.args.end _ block c.args.«package» c.in-Unlocked.is c.requires.may c.last.ensures in
+    let block = c.last-block.result in
+    let after = after_last c.args.shared.now.hall.now.terms.image.value c.args.parts.now.pass.knows.worker c.args.end _ block c.args.«package» c.in-Unlocked.is c.requires.may c.last-block.ensures in
     may_unlock c.args.shared.now.hall.now.terms c.args.parts.now.pass.knows.worker block c.args.«package» c.keeps.ensures.sound c.args.parts.now.pass.knows c.in-Unlocked.lock c.requires.parts.image refl after
 
 pub returns-in-Unlocked-clause-settled : goal.returns-in-Unlocked-clause-settled
 returns-in-Unlocked-clause-settled g c =
     let before = desk_with c.args.parts.now (map g.Q.Waiters.seen c.args.seats.now) c.args.sleeping.now in
     let after = desk_with c.unlocked_at.new.parts (map g.Q.Waiters.seen c.unlocked_at.new.seats) c.args.sleeping.now in
-    let did = did_unlock c.args.shared.now.hall.now.terms c.args.«package» _ _ c.args.sleeping.now.sleepers c.args.sleeping.now.clock c.args.parts.now.ready.items _ c.unlocked_at.new.parts c.requires.parts.image c.in-Unlocked.lock c.last.result c.unlocked_at.result c.unlocked_at.ensures in
-    (c.last.result, c.last.ensures, subst (λ (x : End). SettledAs x c.args.«package» c.last.result before after c.unlocked_at.result) (sym c.in-Unlocked.is) did)
+    let did = did_unlock c.args.shared.now.hall.now.terms c.args.«package» _ _ c.args.sleeping.now.sleepers c.args.sleeping.now.clock c.args.parts.now.ready.items _ c.unlocked_at.new.parts c.requires.parts.image c.in-Unlocked.lock c.last-block.result c.unlocked_at.result c.unlocked_at.ensures in
+    (c.last-block.result, c.last-block.ensures, subst (λ (x : End). SettledAs x c.args.«package» c.last-block.result before after c.unlocked_at.result) (sym c.in-Unlocked.is) did)
 
 pub returns-in-Unlocked-clause-keeps : goal.returns-in-Unlocked-clause-keeps
 returns-in-Unlocked-clause-keeps g c =
@@ -83,19 +83,19 @@ ended_with-requires-clause-parts g c = λ κs b. may_begin c.args.shared.now.hal
 
 pub ended_with-requires-clause-may : goal.ended_with-requires-clause-may
 ended_with-requires-clause-may g c = λ κs b.
-    let block = c.last-block.result in
-    let after = after_last c.args.shared.now.hall.now.terms.image.value c.args.parts.now.pass.knows.worker c.args.end _ block c.args.«package» refl c.requires.may c.last-block.ensures in
+    let block = c.last-block-in_default.result in
+    let after = after_last c.args.shared.now.hall.now.terms.image.value c.args.parts.now.pass.knows.worker c.args.end _ block c.args.«package» refl c.requires.may c.last-block-in_default.ensures in
     may_end c.args.shared.now.hall.now.terms c.args.parts.now.pass.knows.worker _ block c.args.«package» c.keeps.ensures.sound after c.args.parts.now.pass.knows c.requires.parts.image refl
     (ended c.args.end c.in_default.not-Wants c.in_default.not-Unlocked c.in_default.not-Slept c.in_default.not-Cut)
 
 pub returns-in_default-clause-settled : goal.returns-in_default-clause-settled
 returns-in_default-clause-settled g c =
-    let block = c.last-block.result in
+    let block = c.last-block-in_default.result in
     let ends = ended c.args.end c.in_default.not-Wants c.in_default.not-Unlocked c.in_default.not-Slept c.in_default.not-Cut in
     let did = did_end c.args.shared.now.hall.now.terms c.args.«package» _ _ c.args.sleeping.now.sleepers c.args.sleeping.now.clock c.args.parts.now.ready.items _ c.ended_with.new.parts c.requires.parts.image block c.ended_with.result c.ended_with.ensures in
-    (block, c.last-block.ensures, settled_end c.args.end c.args.«package» block _ _ c.ended_with.result ends did)
+    (block, c.last-block-in_default.ensures, settled_end c.args.end c.args.«package» block _ _ c.ended_with.result ends did)
 
 pub returns-in_default-clause-keeps : goal.returns-in_default-clause-keeps
 returns-in_default-clause-keeps g c =
-    let same = same_seats c.last-block.result c.args.«package» (map g.Q.Waiters.seen c.args.seats.now) (map g.Q.Waiters.seen c.ended_with.new.seats) c.ended_with.ensures.became.0 in
+    let same = same_seats c.last-block-in_default.result c.args.«package» (map g.Q.Waiters.seen c.args.seats.now) (map g.Q.Waiters.seen c.ended_with.new.seats) c.ended_with.ensures.became.0 in
     keeps_of c.args.shared.now.hall.now.terms _ c.args.«package» _ _ c.args.sleeping.now c.args.sleeping.now _ c.ended_with.new.parts _ c.ended_with.result c.clear.ensures c.ended_with.ensures.answers same refl refl
