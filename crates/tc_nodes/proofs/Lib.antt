@@ -9,3 +9,6 @@ pub mod Opening
 pub mod Kept
 pub mod Calling
 pub mod Marks
+pub mod Served
+pub mod Arriving
+pub mod Alone

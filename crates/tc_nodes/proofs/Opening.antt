@@ -1,5 +1,5 @@
 -- A new queue keeps the rule.
-use Rattle.std.proofs.Common.{◌<◌, ◌≡◌, ⊎_elim, ◌%◌, ℕ, zero, suc, ◌+◌, ◌≤◌, List, [], ◌∷◌, ◌++◌, All, length, replicate, get_or, sym, refl, ap, ◌∙◌, subst, arith}
+use Rattle.std.proofs.Common.{◌≡◌, ⊎_elim, ◌%◌, ℕ, zero, suc, ◌+◌, ◌≤◌, List, [], ◌∷◌, ◌++◌, All, length, replicate, get_or, sym, refl, ap, ◌∙◌, subst, arith}
 use Rattle.std.proofs.lemmas.List.{length-replicate}
 use Rattle.tc_queue.proofs.Opening.{zeros}
 use mathlib.Core.Option.{some, some-injective, some-ne-none}

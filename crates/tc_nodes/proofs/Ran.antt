@@ -25,7 +25,7 @@ pub history_more : (most : ℕ) (past : List Did) (ops : List Op) (op : Op) → 
 history_more most past [] op = refl
 history_more most past (x ∷ ops) op = history_more most (after_op most past x) ops op
 
-arrivals_after : (most : ℕ) (past : List Did) (ops : List Op) → arrivals (history most past ops) ≡ arrivals past ++ arriving ops
+pub arrivals_after : (most : ℕ) (past : List Did) (ops : List Op) → arrivals (history most past ops) ≡ arrivals past ++ arriving ops
 arrivals_after most past [] = sym (append-nil (arrivals past))
 arrivals_after most past (Arrive u node ∷ ops) = arrivals_after most (Arrived u node ∷ past) ops ∙ append_assoc (arrivals past) (record { turn = u; node = node } ∷ []) (arriving ops)
 arrivals_after most past (Pick node ∷ ops) = arrivals_after most (Answered (answer most node past) ∷ past) ops

@@ -1,11 +1,10 @@
 -- Turns that are equal or not, and lists of arrivals.
-use Rattle.std.proofs.Common.{◌≡◌, ◌==◌, ◌&&◌, ◌||◌, Bool, true, false, cond, List, [], ◌∷◌, ◌++◌, sym, refl, ap, ◌∙◌, inl, inr, ◌⊎◌, eqb-true, eq-eqb}
+use Rattle.std.proofs.Common.{◌≡◌, ◌==◌, ◌&&◌, ◌||◌, Bool, true, false, cond, List, [], ◌∷◌, ◌++◌, sym, refl, ap, ◌∙◌, eqb-true, eq-eqb}
 use Rattle.std.proofs.lemmas.Bool.{and_parts, or_parts, or_left, or_right}
 use Rattle.tc_queue.specs.declared.turn.Turn.{Turn}
 use Rattle.tc_nodes.specs.declared.cells.Placed.{Placed}
 use Rattle.tc_nodes.specs.Line.{is_turn}
 use Rattle.tc_nodes.specs.Picks.{has_come, is_after, HaveComeOnce}
-use Rattle.tc_lemmas.proofs.Tests.{true_or_false}
 
 pub falsely : true ≡ false → ⊥
 falsely e = absurd (cc e)

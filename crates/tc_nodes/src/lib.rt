@@ -12,7 +12,10 @@
 //! queue would have given the same answers (`specs/Order.antt`); that each `next` is the pick from
 //! the line that the seat had in hand; and that no turn that the line took in is lost, and none in
 //! it was passed over more often than the bound says. It is an order of waiters like any other
-//! (`Waiters` of tc_queue). That turns are served in the order of entry is not promised.
+//! (`Waiters` of tc_queue). Over the one order of steps, where each thread has one turn at a time and
+//! no turn comes twice, who is served is as the definition of all picks says of all arrivals, and
+//! turns arrive in the order in which they entered (`serving`, with `specs/Served.antt`). That turns
+//! are served in that order is promised only where the bound is 0 or all are on one node.
 //!
 //! - `line`: a line of waiting turns, and who is picked from it.
 //! - `picks`: a line over a whole list of arrivals and picks.
@@ -33,7 +36,7 @@ mod step;
 mod waiters;
 
 pub use cells::Placed;
-pub use laws::keeping;
+pub use laws::{keeping, serving};
 pub use line::{Line, Waiter};
 pub use picks::{Op, run_line};
 pub use queue::{NodeQueue, NodeSeat};
