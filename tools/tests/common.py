@@ -223,7 +223,7 @@ class Folder(unittest.TestCase):
         path.parent.mkdir(parents=True, exist_ok=True)
         path.write_text(text)
 
-    def begin(self, *words: str, shell: tuple[str, ...] = (), script: str = "tclocks",
+    def begin(self, *words: bytes | str, shell: tuple[str, ...] = (), script: str = "tclocks",
               **more: Any) -> subprocess.Popen[bytes]:
         return subprocess.Popen([*shell, self.root / script, *words], env={**self.environment, **more},
                                 stdin=subprocess.PIPE, stdout=subprocess.PIPE, stderr=subprocess.PIPE)
@@ -232,7 +232,7 @@ class Folder(unittest.TestCase):
         """Runs a line of the shell, in which $0 is the command."""
         return process("sh", "-c", text, self.root / "tclocks", input=b"x", env=self.environment)
 
-    def command(self, *words: str, given: bytes = b"", **more: Any) -> tuple[int, bytes, str]:
+    def command(self, *words: bytes | str, given: bytes = b"", **more: Any) -> tuple[int, bytes, str]:
         """The status, the output and what was said."""
         started = self.begin(*words, **more)
         out, said = started.communicate(given, timeout=60)

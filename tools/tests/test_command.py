@@ -15,21 +15,21 @@ import tempfile
 import time
 import unittest
 
+from tools.workbench import limits
 from .common import ROOT, Folder, process
 
 
 # The program's own line.
 USAGE = re.search(r'let line =\s+"(usage: [^"]*)\\n"', (ROOT / "crates/tc_main/src/answer.rt").read_text()).group(1).encode() + b"\n"  # type: ignore[union-attr]
-# Words that ask for something, and words that ask for nothing.
+# Words that ask for something, and words that ask for nothing: those of the program's own table, in which the first line
+# is that of no words, `_` is a blank in a word, and `?` a byte that no text has; and some more.
 FORMS = ("run 1 1 0", "run 8 65536 256", "run 4 20000 8", "gen 1", "gen 2000", "demo 1 1", "demo 2000 8",
          "nodes 1 0 1 1 0", "nodes 8 256 8 65536 256", "nodes 2 4 4 2000 8", "replay 1 1 1 0", "replay 1048576 8 65536 256",
          "profile 1 1 1 0", "profile 1048576 8 65536 256")
-WRONG = ("", "run", "run 1 1", "run 1 1 0 0", "run 0 10 1", "run 9 10 1", "run 2 010 1", "run 1 0 0", "run 1 65537 0",
-         "run 1 1 257", "run +1 1 0", "run -1 1 0", "run 1 1 99999999999999999999", "stop", "gen", "gen 0", "gen 01",
-         "gen 2001", "gen 1 1", "demo 5", "demo 0 1", "demo 2001 1", "demo 5 0", "demo 5 9", "demo 5 1 1", "--help",
-         "replay", "replay 92 1 100", "replay 0 1 100 0", "replay 1048577 1 100 0", "replay 092 1 100 0", "replay 92 1 100 0 0",
-         "profile 92 9 100 0", "profile 1 100 0", "nodes", "nodes 3 4 2 2000 8", "nodes 0 4 2 2000 8", "nodes 1 257 2 2000 8", "nodes 2 4 4 2000", "nodes 2 4 4 2000 8 8",
-         "--version", "-h", "Run 1 1 0", "run 1 1 ٣")
+TABLE = re.search(r"const NO_FORM: &str = \"\\n\\\n([^\"]*)\";", (ROOT / "crates/tc_tests/src/outside.rt").read_text()).group(1)  # type: ignore[union-attr]
+WRONG = [[word.encode().replace(b"_", b" ").replace(b"?", b"\xff") for word in line.split()]
+         for line in ("", *TABLE.splitlines(), "run -1 1 0", "run 1 1 99999999999999999999", "-h", "run 1 1 ٣")]
+WRONG += [b"gen", b"1\n"], [b"gen", b""]
 
 
 class Command(Folder):
@@ -129,9 +129,8 @@ class Unproved(Folder):
         self.assertEqual(self.left_over(), [])
 
     def test_wrong_words_start_nothing(self) -> None:
+        self.assertGreater(len(WRONG), 50)
         for words in WRONG:
-            self.assertEqual(self.command(*words.split(" ") * (words != "")), (1, USAGE, ""), words)
-        for words in ([b"\xff", b"1", b"1", b"0"], [b"run", b"\xff", b"1", b"0"], [b"gen", b"1\n"], [b"gen", b""]):  # type: ignore[assignment]
             self.assertEqual(self.command(*words), (1, USAGE, ""), words)
         self.assertEqual(self.count(), [])
 
@@ -178,11 +177,12 @@ class Rules(unittest.TestCase):
 
     def test_the_usage_line_is_that_of_the_program(self) -> None:
         self.assertIn(f'\nusage="{USAGE.decode().strip()}"\n', self.script)
+        self.assertEqual(limits.USAGE, USAGE.decode().strip())
 
     def test_each_form_of_the_usage_line_has_its_limits(self) -> None:
         forms = re.findall(r'^    "([a-z]+)((?: \d+-\d+)+)"$', self.script, re.M)
         told = [form.split()[1:] for form in re.search(r'usage="usage: (.*)"', self.script).group(1).split(" | ")]  # type: ignore[union-attr]
-        self.assertEqual([[name, len(limits.split())] for name, limits in forms], [[form[0], len(form) - 1] for form in told])
+        self.assertEqual([[name, len(some.split())] for name, some in forms], [[form[0], len(form) - 1] for form in told])
 
     def test_limits_are_those_of_the_program(self) -> None:
         constants = {}
@@ -199,27 +199,15 @@ class Rules(unittest.TestCase):
         self.assertIn(f"\nmost={named['MAX_FILE'] + 1}\n", self.script)
         self.assertIn(f"\nhistory={named['MAX_HISTORY']}\n", self.script)
 
-    def test_the_programs_own_wrong_words_are_wrong_here(self) -> None:
-        table = re.search(r"const NO_FORM: &str = \"\\n\\\n([^\"]*)\";",
-                          (ROOT / "crates/tc_tests/src/outside.rt").read_text())
-        assert table
-        # The table's first line is that of no words. In a word `_` is a blank, and `?` a byte that no text has.
-        lists = ["", *table[1].splitlines()]
-        self.assertGreater(len(lists), 30)
-        for listed in lists:
-            words = [word.encode().replace(b"_", b" ").replace(b"?", b"\xff") for word in listed.split()]
-            done = process(ROOT / "tclocks", *words, stdin=subprocess.DEVNULL, env={"PATH": "/usr/bin:/bin"})
-            self.assertEqual((done.returncode, done.stdout, done.stderr), (1, USAGE, b""), words)
-
     def test_the_built_program_answers_so(self) -> None:
         program = ROOT / "crates/tclocks/out/tclocks"
         if not program.exists():
             self.skipTest("the program is not built")
         for words in WRONG:
-            done = process(program, *words.split(" ") * (words != ""), stdin=subprocess.DEVNULL)
+            done = process(program, *words, stdin=subprocess.DEVNULL)
             self.assertEqual((done.returncode, done.stdout, done.stderr), (1, USAGE, b""), words)
-        for words in FORMS:
-            self.assertNotEqual(process(program, *words.split(), stdin=subprocess.DEVNULL).returncode, 1, words)
+        for form in FORMS:
+            self.assertNotEqual(process(program, *form.split(), stdin=subprocess.DEVNULL).returncode, 1, form)
 
 
 class Building(Folder):

@@ -37,63 +37,46 @@ WORK = (
     ("add 8 8 10", 0, 0),  # the answer of the LOCK before, where nothing stands between
     ("SLEEP {k}", 0, 3))
 TWICE, ADD = WORK[:2]
-ANSWER = "addi 10 8 0; EXIT"
+BEGIN, ANSWER = f"lui 5 {made.DATA};", "addi 10 8 0; EXIT"
 
 
-def one_of(chance: random.Random, lock: int, text: str, low: int, high: int) -> list[int]:
-    """The words of one of WORK."""
-    return made.code(text, at=4 * lock, byte=4 * lock + 1, k=chance.randrange(low, high) if high else 0)
+def one_of(chance: random.Random, lock: int, text: str, low: int, high: int) -> str:
+    """One of WORK, with a lock's word."""
+    return text.format(at=4 * lock, byte=4 * lock + 1, k=chance.randrange(low, high) if high else 0) + ";"
 
 
-def work(chance: random.Random, lock: int) -> list[int]:
-    return [word for _ in range(chance.randrange(1, 3))
-            for word in one_of(chance, lock, *chance.choice(WORK))]
+def work(chance: random.Random, lock: int) -> str:
+    return "".join(one_of(chance, lock, *chance.choice(WORK)) for _ in range(chance.randrange(1, 3)))
 
 
-def single(chance: random.Random, locks: int) -> list[int]:
-    lock = chance.randrange(locks)
-    return made.call(1, lock) + work(chance, lock) + made.call(2, lock)
+def section(chance: random.Random, locks: int) -> str:
+    """One lock; two, one in the other; the last one only where the first one's word is odd; or all, where each is
+    released when the next one is held."""
+    kind = chance.choice(["one"] + ["two", "two", "odd"] * (locks > 1) + ["all", "all"] * (locks > 2))
+    low, high = sorted(chance.sample(range(locks), 2)) if kind == "two" else (0, locks - 1)
+    if kind == "one":
+        lock = chance.randrange(locks)
+        return f"LOCK {lock}; {work(chance, lock)} UNLOCK {lock};"
+    if kind == "two":
+        first, second = chance.choice(((low, high), (high, low)))
+        return (f"LOCK {low}; {work(chance, low) if chance.random() < 0.5 else ''} LOCK {high}; {work(chance, high)}"
+                f"{work(chance, low)} UNLOCK {first}; {work(chance, second)} UNLOCK {second};")
+    if kind == "odd":
+        inner = f"LOCK {high}; {work(chance, high)} UNLOCK {high};"
+        jump = 4 + 4 * len(made.code(inner))
+        return f"LOCK 0; {work(chance, 0)} lw 7 5 0; andi 7 7 1; beq 7 0 {jump}; {inner} UNLOCK 0;"
+    others = (f"LOCK {lock}; {work(chance, lock)} UNLOCK {lock - 1};" + "SLEEP 1;" * (chance.random() < 0.3)
+              for lock in range(1, locks))
+    return f"LOCK 0; {work(chance, 0)} {''.join(others)} UNLOCK {high};"
 
 
-def nested(chance: random.Random, locks: int) -> list[int]:
-    low, high = sorted(chance.sample(range(locks), 2))
-    code = made.call(1, low) + (work(chance, low) if chance.random() < 0.5 else [])
-    code += made.call(1, high) + work(chance, high) + work(chance, low)
-    first, second = chance.choice(((low, high), (high, low)))
-    return code + made.call(2, first) + work(chance, second) + made.call(2, second)
-
-
-def hand_over_hand(chance: random.Random, locks: int) -> list[int]:
-    """Each lock is released when the next one is held."""
-    code = made.call(1, 0) + work(chance, 0)
-    for lock in range(1, locks):
-        code += made.call(1, lock) + work(chance, lock) + made.call(2, lock - 1)
-        if chance.random() < 0.3:
-            code += made.call(3, 1)
-    return code + made.call(2, locks - 1)
-
-
-def sometimes(chance: random.Random, locks: int) -> list[int]:
-    """The last lock is taken only where the first one's word is odd."""
-    inner = made.call(1, locks - 1) + work(chance, locks - 1) + made.call(2, locks - 1)
-    return [*made.call(1, 0), *work(chance, 0),
-            *made.code(f"lw 7 5 0; andi 7 7 1; beq 7 0 {4 + 4 * len(inner)}"), *inner, *made.call(2, 0)]
-
-
-def section(chance: random.Random, locks: int) -> list[int]:
-    kinds = [single] + [nested, nested, sometimes] * (locks > 1) + [hand_over_hand, hand_over_hand] * (locks > 2)
-    return chance.choice(kinds)(chance, locks)
-
-
-def end(chance: random.Random, locks: int) -> list[int]:
+def end(chance: random.Random, locks: int) -> str:
     """How a thread's code ends: mostly well, else with a lock held, by a fault or in a loop."""
-    held = made.call(1, chance.randrange(locks)) if chance.random() < 0.6 else []
+    # EBREAK; a loop; fault 7 but with the last lock; fault 11 where a lock is held; a lock that is held.
+    ends = f"{work(chance, 0)} ebreak", "jal 0 0", f"lw 7 5 {4 * (locks - 1)};{ANSWER}", f"LOCK 0;{ANSWER}", ANSWER
     kind = chance.randrange(9)
-    if kind == 0:
-        return held + work(chance, 0) + made.code("ebreak")
-    # A loop; fault 7 but with the last lock; fault 11 where a lock is held; a lock that is held.
-    ends = {1: "jal 0 0", 2: f"lw 7 5 {4 * (locks - 1)};{ANSWER}", 3: f"LOCK 0;{ANSWER}", 4: ANSWER}
-    return (held if kind in ends else []) + made.code(ends.get(kind, ANSWER))
+    held = f"LOCK {chance.randrange(locks)};" if kind < len(ends) and chance.random() < 0.6 else ""
+    return held + (ends[kind] if kind < len(ends) else ANSWER)
 
 
 def guest(seed: int) -> tuple[bytes, int]:
@@ -104,10 +87,9 @@ def guest(seed: int) -> tuple[bytes, int]:
     entries = []
     for thread in range(threads):
         entries.append((made.CODE + 4 * len(words), chance.randrange(9)))
-        words += made.code(f"lui 5 {made.DATA}; addi 8 10 0")
-        for _ in range(chance.choice((1, 1, 2) if threads == 2 else (1,))):
-            words += section(chance, locks)
-        words += end(chance, locks)
+        count = chance.choice((1, 1, 2) if threads == 2 else (1,))
+        sections = "".join(section(chance, locks) for _ in range(count))
+        words += made.code(f"{BEGIN} addi 8 10 0; {sections} {end(chance, locks)}")
     guards = [(made.DATA + 4 * lock, 4) for lock in range(locks)]
     content = bytes(chance.randrange(1, 5) if at % 4 == 0 else 0 for at in range(4 * locks))
     return made.elf(made.note(entries, guards), words, content, 256), chance.choice((25, 50, 90, 200))
@@ -145,9 +127,6 @@ def plain(file: bytes, fuel: int) -> tuple[dict[rules.End, int], int]:
     return ends, len(seen)
 
 
-BEGIN = f"lui 5 {made.DATA};"
-
-
 def of_two(one: list[int], other: list[int], data: list[int]) -> bytes:
     """The file of two threads with a lock for each word of the data."""
     return made.elf(made.note([(made.CODE, 0), (made.CODE + 4 * len(one), 0)], [(made.DATA + 4 * lock, 4) for lock in range(len(data))]),
@@ -178,9 +157,9 @@ class EveryInterleaving(Case):
         self.assertLessEqual({"exit", "spent", "fault 7", "fault 11"}, kinds)
 
     def test_blocks_of_the_greatest_length(self) -> None:
-        loop = made.code("addi 6 0 2047; addi 6 6 2; addi 6 6 -1; bne 6 0 -4")
+        loop = "addi 6 0 2047; addi 6 6 2; addi 6 6 -1; bne 6 0 -4;"
         one, other = (one_of(random.Random(seed), 0, *TWICE) for seed in (1, 2))
-        code = [*made.code(f"{BEGIN} LOCK 0"), *one, *loop, *loop, *other, *made.code("UNLOCK 0; EXIT")]
+        code = made.code(f"{BEGIN} LOCK 0; {one} {loop} {loop} {other} UNLOCK 0; EXIT")
         _, ends = self.same(built(code, (0, 0), 1), 9000)
         self.assertEqual(len(ends), 1)
         self.assertGreater(next(iter(ends.values())), 8)
@@ -188,8 +167,8 @@ class EveryInterleaving(Case):
     def test_a_return_to_a_place_behind_no_call(self) -> None:
         """Which registers are read again is not known then, so all are kept."""
         for link in steps.LINKS:
-            code = [*made.code(f"{BEGIN} LOCK 0; lw 7 5 0; addi 6 7 0"), *one_of(random.Random(1), 0, *TWICE), *made.code(
-                "UNLOCK 0; auipc {x} 0; addi {x} {x} 16; jalr 0 {x} 0; ebreak; LOCK 0; UNLOCK 0; addi 10 6 0; EXIT", x=link)]
+            code = made.code(f"{BEGIN} LOCK 0; lw 7 5 0; addi 6 7 0; {one_of(random.Random(1), 0, *TWICE)} UNLOCK 0; auipc {link} 0; "
+                             f"addi {link} {link} 16; jalr 0 {link} 0; ebreak; LOCK 0; UNLOCK 0; addi 10 6 0; EXIT")
             found, ends = self.same(built(code, (0, 0), 1), 100)
             self.assertIsNone(found.shares.alone.sections.live)  # type: ignore[union-attr]
             self.assertEqual({tuple(x10 for _, x10 in end.threads) for end in ends}, {(0, 1), (1, 0)})
@@ -208,10 +187,10 @@ class EveryInterleaving(Case):
         for seed in range(4):
             chance = random.Random(seed)
             ways = "add 7 7 9", "add 9 7 9; addi 7 9 1", "sub 7 7 9", "add 7 7 7; sub 7 7 9"
-            code = [[*made.code(f"{BEGIN} LOCK 0; LOCK 1; lw 7 5 0; lw 9 5 4; {way}; sw 7 5 0"), *one_of(chance, 1, *TWICE),
-                     *made.code("UNLOCK 1; UNLOCK 0; LOCK 1"), *one_of(chance, 1, *ADD), *made.code("UNLOCK 1; EXIT")]
-                    for way in (ways[seed], chance.choice(ways))]
-            self.same(of_two(code[0], code[1], [3, 5]), 100)
+            one, other = (made.code(
+                f"{BEGIN} LOCK 0; LOCK 1; lw 7 5 0; lw 9 5 4; {way}; sw 7 5 0; {one_of(chance, 1, *TWICE)} UNLOCK 1; "
+                f"UNLOCK 0; LOCK 1; {one_of(chance, 1, *ADD)} UNLOCK 1; EXIT") for way in (ways[seed], chance.choice(ways)))
+            self.same(of_two(one, other, [3, 5]), 100)
 
     def test_a_lock_that_is_taken_for_some_bytes_alone(self) -> None:
         """Thread 1 takes lock 1 only where the first word is odd. It is even behind the first step of thread 0,

@@ -214,10 +214,6 @@ class Checks(Case):
             self.assertTrue(self.well(name, "--help").startswith(f"usage: workbench {name} "), name)
         self.assertEqual({path: path.stat().st_mtime_ns for path in before}, before)
 
-    def test_the_usage_line_is_the_program_s(self) -> None:
-        """As the command, which is held to the program, has it."""
-        self.assertIn(f'usage="{limits.USAGE}"', (ROOT / "tclocks").read_text())
-
     def test_without_a_program(self) -> None:
         for words in "check first", "fuzz 1", "refuse", "endure 1":
             self.one_line(run(words, by="/no/such/file"), 2, "the program isn't built")
@@ -285,8 +281,7 @@ class Checks(Case):
     def test_a_contended_guest_must_show_delegation(self) -> None:
         check, text = script("check"), history("counter", 1, 8, None)[1]
         check.check_run = lambda file, known, words: text
-        check.give_back = check.give_changed = lambda *_: ()
-        with contextlib.redirect_stdout(io.StringIO()) as said:
+        with mock.patch.object(rejecting, "give_back", lambda *_: ()), contextlib.redirect_stdout(io.StringIO()) as said:
             passed = [check.check(name, FACTS[name])[0] for name in ("counter", "first")]
         self.assertEqual(passed, [False, True])
         self.assertEqual(said.getvalue(), "counter: FAILED: one worker alone ran in each of 125 runs\n"

@@ -94,11 +94,6 @@ class Tables(Case):
         lock = "lock {} sections 1 taken 1 adopted 0 granted 0 longest 0 changes 0 home 0\n"
         self.assertEqual(self.well("summary - --profile", given=text), "tclocks profile 1\n" + lock.format(0)
                          + lock.format(1) + "thread 0 blocks 5 turns 14 moves 0\nend\n")
-        counts = json.loads(run("summary", "-", "--json", given=text).stdout)
-        for lock in counts["by_lock"]:
-            self.assertEqual([lock[name] for name in ("sections", "taken", "adopted", "granted", "longest", "changes", "home")],  # type: ignore[index]
-                             [1, 1, 0, 0, 0, 0, 0])
-        self.assertEqual([counts["by_thread"][0][name] for name in ("blocks", "turns", "moves")], [5, 14, 0])
 
     def test_changes_are_counted_from_the_second_section(self) -> None:
         """A lock's first section changes nothing, whatever stands before it, as in a report that is not legal."""

@@ -42,9 +42,7 @@ class Measured:
 
     def run(self, file: bytes, is_read: bool = False) -> bytes:
         """A run over a file. Answers its report where that is to be read, else nothing."""
-        with process.over(file, self.words, self.path) as (status, took, written):
-            if status:
-                raise Failed(f"{'peer' if self.path else 'tclocks'} {' '.join(map(str, self.words))} ended with status {status}")
+        with process.over(file, self.words, self.path) as (took, written):
             self.took.append(took)
             return written.read() if is_read else b""
 

@@ -14,6 +14,7 @@ from typing import IO, Any, Callable, Iterable, Iterator, NamedTuple
 
 from .. import limits, tool
 from ..running import program
+from .table import Failed
 
 HERE = Path(__file__).resolve().parent
 TURNS = re.compile(rb"^block \d+ thread \d+ turns (\d+) ")
@@ -104,15 +105,18 @@ def run(words: tuple[Any, ...], given: IO[bytes], written: IO[bytes], path: Path
 
 
 @contextlib.contextmanager
-def over(file: bytes, words: tuple[Any, ...], path: Path | None = None,
-         surroundings: dict[str, str] | None = None) -> Iterator[tuple[int, Took, IO[bytes]]]:
-    """Runs it over the bytes of a file: its status, what it took, and what it wrote."""
+def over(file: bytes, words: tuple[Any, ...], path: Path | None = None, surroundings: dict[str, str] | None = None,
+         said: str = "") -> Iterator[tuple[Took, IO[bytes]]]:
+    """Runs it over the bytes of a file: what it took, and what it wrote. Failed, with what is said of the run, where
+    its status is not 0."""
     with tempfile.TemporaryFile() as given, tempfile.TemporaryFile() as written:
         given.write(file)
         given.seek(0)
         status, took = run(words, given, written, path, surroundings)
+        if status:
+            raise Failed(f"{path.name if path else 'tclocks'} {' '.join(map(str, words))} ended with status {status}{said}")
         written.seek(0)
-        yield status, took, written
+        yield took, written
 
 
 def counts(report: IO[bytes]) -> tuple[int, int, int]:

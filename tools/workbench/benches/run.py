@@ -14,8 +14,7 @@ import subprocess
 from pathlib import Path
 from typing import List, Tuple
 
-from .. import limits, progress, tool
-from ..reports import report
+from .. import limits, tool
 from ..running import program
 from . import guests, process, table
 
@@ -66,22 +65,12 @@ def instructions(name: str, asked: Namespace, how: Counter | None) -> tuple[floa
     return each, many - each * more
 
 
-def ran(name: str, workers: int, asked: Namespace) -> tuple[process.Took, tuple[int, int, int]] | None:
-    """What a run of a guest took, its turns, blocks and bytes of report; None where its status isn't 0."""
-    words = "run", workers, asked.fuel, asked.batch
-    with process.over(guests.GUESTS[name](), words) as (status, took, written):
-        if status:
-            progress.say(f"{name}, {report.several(workers, 'worker')} ended with status {status}")
-            return None
-        return took, process.counts(written)
-
-
 def measure(name: str, workers: int, asked: Namespace, how: Counter | None, to: table.Table) -> None:
     """Runs a guest and prints its line. Instructions are of one worker: several share work in other ways."""
-    runs = [one for one in (ran(name, workers, asked) for _ in range(asked.runs)) if one is not None]
-    if len(runs) < asked.runs:
-        to.failed = True
-        return
+    runs = []
+    for _ in range(asked.runs):
+        with process.over(guests.GUESTS[name](), ("run", workers, asked.fuel, asked.batch)) as (ran, written):
+            runs.append((ran, process.counts(written)))
     took, (turns, blocks, size) = min(runs)
     each, start = instructions(name, asked, how) if workers == 1 else (None, None)
     to.row([name, workers, turns, blocks, took.seconds, turns / took.seconds, took.busy, took.peak, size, each, start],

@@ -41,9 +41,7 @@ MOST_ROUNDS = 30  # of which one counts at least, on the mean, or the rest are n
 def ran(words: tuple[Any, ...], file: bytes = b"", path: Path | None = None,
         is_counted: bool = False) -> tuple[process.Took, int | None]:
     """What a run of the program took, or of what is at the path, and its blocks where they are to be counted."""
-    with process.over(file, words, path) as (status, took, written):
-        if status:
-            raise tool.Trouble(tool.WRONG, f"{path or 'tclocks'} {' '.join(map(str, words))} ended with status {status}")
+    with process.over(file, words, path) as (took, written):
         return took, process.counts(written)[1] if is_counted else None
 
 
@@ -134,7 +132,7 @@ def measure(name: str, asked: Namespace, clock: Path | None, loop: Path | None, 
     return ratios
 
 
-def main(words: list[str]) -> None:
+def main(words: list[str]) -> int:
     parser = process.words(
         "several", __doc__, guests.GUESTS, ", ".join(USUAL), workers=([1, 2, 4], "1 to 8 each"),
         batch=(8, "batch limit"), fuel=(limits.RUN["fuel"][1], "of each thread"), runs=(9, "of each"))
@@ -146,10 +144,10 @@ def main(words: list[str]) -> None:
                         help="tell the median of the runs in the place of the least")
     asked = process.parsed(parser, words, guests.GUESTS)
     asked.workers = sorted({*asked.workers})
-    measure_all(asked)
+    return measure_all(asked)
 
 
-def measure_all(asked: Namespace) -> None:
+def measure_all(asked: Namespace) -> int:
     """Prints the table, and what it tells in a line."""
     wants_loop = [word for word, is_asked in (("-q", asked.quiet is not None), ("-e", asked.even)) if is_asked]
     if wants_loop and not shutil.which("cc"):
@@ -171,4 +169,4 @@ def measure_all(asked: Namespace) -> None:
         told = "least" if asked.told is min else "median"
         print(f"\nOn {len(os.sched_getaffinity(0))} processors, {told} of {asked.runs}, {of}: "
               f"seconds {table.spread(seconds)}; processor seconds {table.spread(busy)}.")
-    to.end()
+    return to.end()

@@ -54,10 +54,8 @@ def run(host: Host, name: str, workers: int, kind: str) -> Ran:
     """A run of a guest, where the host gives so many threads."""
     threads = GIVEN[kind]
     words, around = ("run", workers, FUEL, BATCH), None if threads is None else host.surroundings(threads)
-    with process.over(guests.file_of(name), words, surroundings=around) as (status, took, written):
-        if status:
-            raise tool.Trouble(tool.WRONG, f"tclocks {' '.join(map(str, words))} over {name} ended with status {status}, "
-                                           f"with {kind} of its threads")
+    said = f", with {kind} of its threads"
+    with process.over(guests.file_of(name), words, surroundings=around, said=said) as (took, written):
         blocks = BLOCK.findall(written.read())
     refused = host.refused()
     if threads is not None and threads < workers - 1 and not refused:
@@ -78,7 +76,7 @@ def measure(host: Host, name: str, workers: int, runs: int, to: table.Table) -> 
     return found
 
 
-def main(words: list[str]) -> None:
+def main(words: list[str]) -> int:
     known = (*OWN, *guests.GUESTS)
     parser = process.words("together", __doc__, known, ", ".join(OWN),
                            workers=([4, 8], "2 to 8; of several numbers each gets lines", 2), runs=(40, "of each"))
@@ -92,4 +90,4 @@ def main(words: list[str]) -> None:
         print(f"\nThreads of the host: {kind}. All of {len(times)} runs ended with status 0; in {sum(several)} "
               f"two workers or more ran blocks, in {sum(adopted)} a section was adopted; median "
               f"{statistics.median(times):.1f} milliseconds, least {min(times):.1f}.")
-    to.end()
+    return to.end()

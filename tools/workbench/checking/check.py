@@ -27,7 +27,7 @@ import re
 import shutil
 import subprocess
 import sys
-from typing import Any, Iterator
+from typing import Any
 
 from .. import limits, places, tool
 from ..guest import model
@@ -37,7 +37,7 @@ from ..running import delegation, program
 
 AMPLE = 20000  # fuel with which each thread of each guest that has an end comes to it
 # The program's words: workers, fuel, batch limit; by nodes their number and the bound come first.
-OPTIONS = [*(("run", *numbers) for numbers in (
+OPTIONS: list[tuple[Any, ...]] = [*(("run", *numbers) for numbers in (
     *itertools.product((1, 2, 4, 8), (AMPLE,), (0, 1, 8, 256)), (1, 1, 0), (2, 9, 256),
     (3, 40, 1), (1, 130, 8), (4, 130, 0), (7, 700, 4), (8, 700, 8))),
     ("nodes", 2, 4, 4, AMPLE, 8), ("nodes", 3, 1, 7, 700, 4)]
@@ -58,35 +58,25 @@ def check_facts(known: dict[str, list[Any]], machine: model.Machine, fuel: int) 
             raise report.Wrong(f"thread {number} ends {thread.end} with fuel {thread.fuel}, not {wanted}")
 
 
-def check_run(file: bytes, known: dict[str, list[Any]], words: tuple[Any, ...]) -> str:
-    """Checks a run, and answers its report."""
+def run(file: bytes, words: tuple[Any, ...]) -> tuple[str, model.Machine]:
+    """The report of a run, and the machine behind it; Wrong where the report is not that of a legal run."""
     guest, (status, text) = model.Guest(file), program.run(words, file)
     workers, fuel, batch = words[-3:]
     if status:
         raise report.Wrong(f"status {status}, {text[:200]!r}")
     if f"\nrun workers {workers} fuel {fuel} batch {batch}\n" not in text:
         raise report.Wrong("the report is of another run")
-    check_facts(known, legal.replay_whole(guest, text), fuel)
+    machine = legal.replay_whole(guest, text)
     if workers == 1:
         delegation.check_alone(guest, fuel, batch, text)
+    return text, machine
+
+
+def check_run(file: bytes, known: dict[str, list[Any]], words: tuple[Any, ...]) -> str:
+    """Checks a run, and answers its report."""
+    text, machine = run(file, words)
+    check_facts(known, machine, words[-2])
     return text
-
-
-def give_back(file: bytes, words: tuple[Any, ...], text: str, kept: str) -> list[report.Block]:
-    """Gives the history of a report back, and answers its blocks."""
-    history, numbers = rejecting.history_of(text), words[-3:]
-    blocks, _ = rejecting.read(history)
-    counted = rejecting.profile_text(legal.Run(model.Guest(file), *numbers), blocks)
-    for form, wanted in ("replay", text), ("profile", counted):
-        rejecting.ask(form, file, numbers, history, (tool.DONE, wanted), kept)
-    return blocks
-
-
-def give_changed(file: bytes, words: tuple[Any, ...], blocks: list[report.Block], draw: random.Random,
-                 kept: str) -> Iterator[str]:
-    """Gives changed histories, one of each form, and answers for which reasons they are rejected."""
-    for form in spoil.FORMS:
-        yield rejecting.ask_both(file, words[-3:], form(draw, blocks).encode("ascii"), kept).reason or TAKEN
 
 
 class Shown:
@@ -129,9 +119,9 @@ def check(name: str, known: dict[str, list[Any]]) -> tuple[bool, collections.Cou
             break
         try:
             text = check_run(file, known, words)
-            blocks = give_back(file, words, text, kept)
-            if shown.runs % CHANGED == 0:
-                shown.answers.update(give_changed(file, words, blocks, draw, kept))
+            forms = spoil.FORMS if shown.runs % CHANGED == 0 else ()
+            reasons = rejecting.give_back(file, words[-3:], text, draw, forms, kept)
+            shown.answers.update(reason or TAKEN for reason in reasons)
         except report.Wrong as wrong:
             print(f"{name}: FAILED: {' '.join(map(str, words))}: {wrong}")
             return False, shown.answers

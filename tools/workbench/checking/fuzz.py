@@ -15,11 +15,12 @@ import random
 from typing import Any
 
 from .. import limits, progress, tool
-from ..guest import damage, guestfile, made, model
+from ..guest import damage, guestfile, made
 from ..guest.rv32im import BY_NAME, WHOLE, encode
-from ..judging import legal, rejecting
+from ..judging import rejecting
 from ..reports import report, spoil
-from ..running import delegation, program
+from ..running import program
+from . import check
 
 BASE = encode("lui", 5, made.DATA)  # where the data begins
 ACCEPTED = "accepted"
@@ -104,29 +105,16 @@ class Draw(random.Random):
         return made.elf(made.note(entries, guards, version), words, data, len(data) + self.randrange(9))
 
 
-def judge(file: Any, options: Any, refused: Any) -> Any:
-    """The report of a file, or None where it is refused. Wrong where the program answers otherwise."""
+def judge(file: bytes, options: tuple[int, ...], refused: str | None, draw: random.Random, kept: str) -> str | None:
+    """Runs a file, and gives the history of its report back, and a changed one: why that is rejected. Wrong where the
+    program answers otherwise than it must; None too where the file is refused."""
+    if refused is None:
+        text, _ = check.run(file, ("run", *options))
+        return next(rejecting.give_back(file, options, text, draw, [draw.choice(spoil.FORMS)], kept))
     status, text = program.run(("run", *options), file)
-    if refused and (status, text) != (3, refused + "\n"):
+    if (status, text) != (3, refused + "\n"):
         raise report.Wrong(f"status {status}, not {refused}")
-    if refused:
-        return None
-    if status:
-        raise report.Wrong(f"status {status}, {text[:80]!r}")
-    guest = model.Guest(file)
-    legal.replay_whole(guest, text)
-    if options[0] == 1:
-        delegation.check_alone(guest, options[1], options[2], text)
-    return text
-
-
-def judge_histories(file: Any, options: Any, text: Any, draw: Any, kept: Any) -> Any:
-    """Gives a report's history back, and a changed one. Answers why the changed one is rejected."""
-    history = rejecting.history_of(text)
-    blocks, _ = rejecting.read(history)
-    rejecting.ask_both(file, options, history, kept)
-    changed = draw.choice(spoil.FORMS)(draw, blocks).encode("ascii")
-    return rejecting.ask_both(file, options, changed, kept).reason
+    return None
 
 
 def main(words: list[str]) -> int | None:
@@ -145,11 +133,10 @@ def main(words: list[str]) -> int | None:
             given = [("whole", file), *((kind.__name__, kind(draw, file)) for kind in damage.KINDS)]
             for name, file in given:
                 refusal = guestfile.refusal(file)
-                refused = refusal and refusal.line
+                refused = refusal.line if refusal else None
                 kept = f"fuzz-{asked.seed}-{number}-{name}"
                 try:
-                    text = judge(file, options, refused)
-                    rejected[text and judge_histories(file, options, text, changes, f"{kept}.txt")] += 1
+                    rejected[judge(file, options, refused, changes, f"{kept}.txt")] += 1
                 except report.Wrong as wrong:
                     failed += 1
                     progress.say(f"{program.keep(f'{kept}.elf', file)}: run {' '.join(map(str, options))}: {wrong}")

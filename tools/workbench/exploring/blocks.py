@@ -3,41 +3,36 @@ own state and on the words of locks that it reads, and on nothing else. Which wo
 """
 from __future__ import annotations
 
+from functools import partial
 from typing import Any, Callable, Iterable, Optional, Sequence, Tuple, Union
+
 from .. import limits
 from ..guest import model
 from ..guest.model import Fault
 from . import steps
-from .steps import CALL, MASK, number
+from .steps import CALL, MASK, Found, number
 
 PAGE = 6  # a page of a thread's memory has 2^6 bytes
 EXIT, SPENT, FAULT = 1, 2, 16  # how a thread ended; fault F is FAULT + F
 ENDS = {EXIT: "exit", SPENT: "spent"}
 
 
-# The fault of an access (4 for one that lies in nothing) or None, what it lies in, and the place in it.
+# The fault of an access (4 for one that lies in nothing) or None; what it lies in, which is a lock's number, the
+# content of a range that can't be written, or None for memory of the thread's own; and the place in it.
 Place = Tuple[Optional[int], Union[int, bytes, None], int]
 
 
-class Places:
-    """What the addresses of a guest are."""
+class Guest:
+    """A guest for the threads that run it: the steps of its code by their addresses, what an access with an address
+    and a width is, and the first content of the pages of a thread's own memory by their numbers."""
 
-    def __init__(self, guest: model.Guest) -> None:
-        self.guest = guest
-        self.found: dict[int, Place] = {}
-        self.first: dict[int, bytes] = {}
+    def __init__(self, guest: model.Guest, known: steps.Live | None = None) -> None:
+        self.guest, self.locks = guest, len(guest.guards)
+        self.code: Found[int, steps.Step] = Found(partial(steps.decoded, guest, known))
+        self.places: Found[Tuple[int, int], Place] = Found(lambda access: self.place(*access))
+        self.pages: Found[int, bytes] = Found(self.page)
 
-    def at(self, address: int, width: int) -> Place:
-        """The fault of an access (4 for one that lies in nothing) or None; what it lies in, which is a
-        lock's number, the content of a range that can't be written, or None for memory of the thread's
-        own; and the place in it."""
-        key = address << 3 | width
-        place = self.found.get(key)
-        if place is None:
-            place = self.found[key] = self.look(address, width)
-        return place
-
-    def look(self, address: int, width: int) -> Place:
+    def place(self, address: int, width: int) -> Place:
         if address % width:
             return 6, None, 0
         if address in limits.STACK:
@@ -51,17 +46,13 @@ class Places:
         return 4, None, 0
 
     def page(self, number: int) -> bytes:
-        """The first content of a page of a thread's own memory."""
-        page = self.first.get(number)
-        if page is None:
-            start, stop = number << PAGE, number + 1 << PAGE
-            page = bytearray(1 << PAGE)
-            for where, flags, content in self.guest.ranges:
-                low, high = max(where.start, start), min(where.stop, stop)
-                if flags & 2 and low < high:
-                    page[low - start:high - start] = content[low - where.start:high - where.start]
-            page = self.first[number] = bytes(page)
-        return page
+        start, stop = number << PAGE, number + 1 << PAGE
+        page = bytearray(1 << PAGE)
+        for where, flags, content in self.guest.ranges:
+            low, high = max(where.start, start), min(where.stop, stop)
+            if flags & 2 and low < high:
+                page[low - start:high - start] = content[low - where.start:high - where.start]
+        return bytes(page)
 
 
 class Held:
@@ -69,8 +60,6 @@ class Held:
     what happened since: whether the thread took it, whether its end broke it, which of the words that it
     found were looked at, in this order, which words were written, and which of these are sums of a word
     that it found and a number."""
-
-    __slots__ = ("held", "broken", "bytes", "took", "breaks", "read", "written", "sums")
 
     def __init__(self, broken: int, content: bytes, took: int) -> None:
         self.held, self.broken, self.bytes = 1, broken, bytearray(content)
@@ -110,13 +99,6 @@ class Away(Exception):
     """Another thread has the lock that the next block takes."""
 
 
-class Guest:
-    """A guest's code and places, for the threads that run it."""
-
-    def __init__(self, guest: model.Guest, known: steps.Live | None = None) -> None:
-        self.code, self.places, self.locks = steps.Code(guest, known), Places(guest), len(guest.guards)
-
-
 class Running:
     """A thread with what it changes: registers, program counter, fuel, the pages of its memory that
     were written, and the locks that it has or had. `look` answers of a lock whether it is held, whether
@@ -134,14 +116,14 @@ class Running:
 
     def wants(self) -> int | None:
         """The lock that the next instruction lawfully takes, or None."""
-        if self.fuel and self.guest.code.at(self.pc) is CALL and number(self.x, 17) == limits.LOCK:
+        if self.fuel and self.guest.code[self.pc] is CALL and number(self.x, 17) == limits.LOCK:
             wanted = number(self.x, 10)
             return None if model.wrong_call(limits.LOCK, wanted, self.held(), self.guest.locks) else wanted
         return None
 
     def inside(self, address: int, width: int, fault: int) -> tuple[Any, int]:
         """What an address lies in, and where: a held lock, bytes not to be written, None for own memory."""
-        wrong, inside, at = self.guest.places.at(address, width)
+        wrong, inside, at = self.guest.places[address, width]
         if wrong is not None:
             raise Fault(fault if wrong == 4 else wrong)
         if isinstance(inside, int):
@@ -153,7 +135,7 @@ class Running:
 
     def page(self, address: int) -> tuple[bytes, int]:
         number = address >> PAGE
-        return self.pages.get(number) or self.guest.places.page(number), address & (1 << PAGE) - 1
+        return self.pages.get(number) or self.guest.pages[number], address & (1 << PAGE) - 1
 
     def load(self, address: int, width: int, extend: bool) -> steps.Sum | int:
         content, at = self.inside(address, width, 4)
@@ -178,8 +160,8 @@ class Running:
 
     def block(self) -> bool:
         """Runs one block. Answers whether it released a lock; Away where it can't take its lock."""
-        x, pc, fuel, known, at = self.x, self.pc, self.fuel, self.guest.code.steps, self.guest.code.at
-        step = known.get(pc) or at(pc)
+        x, pc, fuel, code = self.x, self.pc, self.fuel, self.guest.code
+        step = code[pc]
         try:
             for _ in range(limits.TURNS):
                 if fuel == 0:
@@ -193,7 +175,7 @@ class Running:
                     pc = self.pc
                 else:
                     pc = step(x, self)
-                step = known.get(pc) or at(pc)
+                step = code[pc]
                 if step is CALL:
                     self.pc, self.fuel = pc, fuel
                     if self.wants() is not None:

@@ -16,17 +16,19 @@ from __future__ import annotations
 
 import operator
 import re
-from typing import Callable, Iterable, NamedTuple, Tuple
+from typing import Any, Callable, NamedTuple, Tuple
 
 from ..guest.rv32im import signed
 
 Value = Callable[["End"], int]  # of an end
 Operation = Callable[[int, int], int]
-TOKEN = re.compile(r"\s*(0x[0-9a-fA-F]+|\d+|[a-z]\w*|==|!=|<=|>=|[-+*()<>])")
-COMPARISONS = {"==": operator.eq, "!=": operator.ne, "<": operator.lt, "<=": operator.le,
-               ">": operator.gt, ">=": operator.ge}
-SUMS: dict[str, Operation] = {"+": operator.add, "-": operator.sub}
-PRODUCTS: dict[str, Operation] = {"*": operator.mul}
+TOKEN = re.compile(r"(\s*)(?:(0x[0-9a-fA-F]+|\d+|[a-z]\w*|==|!=|<=|>=|[-+*()<>])|(.+))", re.S)
+COMPARISONS: dict[str, Operation] = {"==": operator.eq, "!=": operator.ne, "<": operator.lt, "<=": operator.le,
+                                     ">": operator.gt, ">=": operator.ge}
+# The operations by how they bind, the weakest first; `not` stands before what is compared.
+LEVELS: tuple[dict[str, Operation], ...] = (
+    {"or": lambda left, right: bool(left or right)}, {"and": lambda left, right: bool(left and right)}, COMPARISONS,
+    {"+": operator.add, "-": operator.sub}, {"*": operator.mul})
 COUNTS: dict[str, Value] = {"faults": lambda end: sum(how.startswith("fault") for how, _ in end.threads),
           "spent": lambda end: sum(how == "spent" for how, _ in end.threads),
           "broken": lambda end: sum(broken for broken, _, _ in end.locks)}
@@ -41,11 +43,9 @@ class End(NamedTuple):
     threads: Tuple[Tuple[str, int], ...]
     locks: Tuple[Tuple[int, int, bytes], ...]
 
-    def order(self) -> tuple[int, int, int, End]:
+    def order(self) -> tuple[Any, ...]:
         """What orders ends: those with faults come first, then with spent threads, then with broken locks."""
-        hows = [how for how, _ in self.threads]
-        return (-sum(how.startswith("fault") for how in hows), -hows.count("spent"),
-                -sum(broken for broken, _, _ in self.locks), self)
+        return (*(-count(self) for count in COUNTS.values()), self)
 
     def word(self, lock: int, word: int) -> int:
         return int.from_bytes(self.locks[lock][2][4 * word:4 * word + 4], "little")
@@ -55,17 +55,14 @@ class Rule:
     """A rule on the ends of a guest with so many threads and locks of so many bytes."""
 
     def __init__(self, text: str, threads: int, sizes: list[int]) -> None:
-        self.text, self.threads, self.sizes, self.tokens = text, threads, sizes, []
-        at, text = 0, text.rstrip()
-        while at < len(text):
-            found = TOKEN.match(text, at)
-            if not found:
-                raise WrongRule(f"{text[at:at + 20]!r} is no part of a rule")
-            self.tokens.append(found[1])
-            at = found.end()
-        self.tokens.reverse()
+        self.text, self.threads, self.sizes = text, threads, sizes
+        self.tokens: list[str] = []  # the next one is the last
+        for blank, token, other in TOKEN.findall(text.rstrip()):
+            if other:
+                raise WrongRule(f"{(blank + other)[:20]!r} is no part of a rule")
+            self.tokens.insert(0, token)
         try:
-            self.value = self.either()
+            self.value = self.part()
         except RecursionError:
             raise WrongRule("it is nested too deep") from None
         if self.tokens:
@@ -81,40 +78,19 @@ class Rule:
         """The next token, if it is one of these (any where none are named), else None."""
         return self.tokens.pop() if self.tokens and (not wanted or self.tokens[-1] in wanted) else None
 
-    def joined(self, word: str, read: Callable[[], Value], holds: Callable[[Iterable[int]], int]) -> Value:
-        """Parts with a word between, as one."""
-        parts = [read()]
-        while self.take(word):
-            parts.append(read())
-        return parts[0] if len(parts) == 1 else lambda end: holds(part(end) for part in parts)
-
-    def either(self) -> Value:
-        return self.joined("or", lambda: self.joined("and", self.negated, all), any)
-
-    def negated(self) -> Value:
-        if self.take("not"):
-            part = self.negated()
-            return lambda end: not part(end)
-        return self.comparison()
-
-    def comparison(self) -> Value:
-        left = self.sum()
-        name = self.take(*COMPARISONS)
-        if name is None:
-            return left
-        right = self.sum()
-        if self.next() in COMPARISONS:
-            raise WrongRule(f"{self.next()!r} stands behind a comparison: join two by 'and'")
-        return self.two(COMPARISONS[name], left, right)
-
-    def sum(self) -> Value:
-        return self.reckoned(SUMS, lambda: self.reckoned(PRODUCTS, self.factor))
-
-    def reckoned(self, operations: dict[str, Operation], read: Callable[[], Value]) -> Value:
-        """Parts with operations between, from left to right."""
-        value = read()
+    def part(self, level: int = 0) -> Value:
+        """A part without operations that bind weaker than those of a level, reckoned from left to right."""
+        if level == len(LEVELS):
+            return self.factor()
+        operations = LEVELS[level]
+        if operations is COMPARISONS and self.take("not"):
+            negated = self.part(level)
+            return lambda end: not negated(end)
+        value = self.part(level + 1)
         while self.next() in operations:
-            value = self.two(operations[self.tokens.pop()], value, read())
+            value = self.two(operations[self.tokens.pop()], value, self.part(level + 1))
+            if operations is COMPARISONS and self.next() in COMPARISONS:
+                raise WrongRule(f"{self.next()!r} stands behind a comparison: join two by 'and'")
         return value
 
     @staticmethod
@@ -126,7 +102,7 @@ class Rule:
             value = self.factor()
             return lambda end: -value(end)
         if self.take("("):
-            value = self.either()
+            value = self.part()
             if not self.take(")"):
                 raise WrongRule("a ')' is missing")
             return value

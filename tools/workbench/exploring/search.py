@@ -9,6 +9,7 @@ from __future__ import annotations
 import functools
 import hashlib
 import marshal
+import math
 import multiprocessing
 import random
 import signal
@@ -109,7 +110,7 @@ class Share:
                 if section:
                     ended, new = False, self.sections.behind(state, sections.NAME * thread, section)
                     if new not in seen:
-                        states = found[self.owner(new)].setdefault(count + section.count, {})
+                        states = found[self.owner(new)].setdefault(count + section.blocks, {})
                         states.setdefault(new, place + thread)
             if ended:
                 self.ends.append((state, len(self.whence) - 1, count))
@@ -147,31 +148,34 @@ class Share:
     def end_states(self) -> list[tuple[rules.End, int]]:
         return [(self.sections.end(state), number) for number, (state, _, _) in enumerate(self.ends)]
 
+    def left(self) -> list[tuple[bytes, int, int]]:
+        """The states that wait, each with whence it is and how many blocks lead to it."""
+        return [(state, whence, blocks) for blocks, states in sorted(self.waiting.items())
+                for state, whence in states.items() if state not in self.seen]
+
+    def places(self, state: bytes) -> tuple[int, ...]:
+        """How far the threads are in a state."""
+        return tuple(self.sections.rounds[name] for name in self.sections.names(state)[0])
+
     def progress(self) -> tuple[int, set[tuple[int, ...]]]:
         """Of the states that wait: how many there are, and how far the threads are in them."""
-        rounds, places, count = self.sections.rounds, set(), 0
-        for states in self.waiting.values():
-            for state in states.keys() - self.seen:
-                count += 1
-                places.add(tuple(rounds[name] for name in self.sections.names(state)[0]))
-        return count, places
+        places = [self.places(state) for state, _, _ in self.left()]
+        return len(places), set(places)
 
     def walked(self, seed: int, many: int) -> list[Walk]:
         """Walks from states that wait."""
-        chance = random.Random(seed)
-        waiting = [(state, whence, blocks) for blocks, states in sorted(self.waiting.items())
-                   for state, whence in states.items() if state not in self.seen]
+        chance, waiting = random.Random(seed), self.left()
         return [self.walk(chance, *chance.choice(waiting)) for _ in range(many if waiting else 0)]
 
     def walk(self, chance: random.Random, state: bytes, whence: int, blocks: int) -> Walk:
-        rounds = [self.sections.rounds[name] for name in self.sections.names(state)[0]]
+        rounds = [*self.places(state)]
         weights, threads = [16 ** chance.uniform(-1, 1) for _ in rounds], []
         able = list(range(len(rounds)))
         while able:
             thread = chance.choices(able, [weights[number] for number in able])[0]
             found = self.sections.result(state, thread)
             if found:
-                state, blocks = self.sections.behind(state, sections.NAME * thread, found), blocks + found.count
+                state, blocks = self.sections.behind(state, sections.NAME * thread, found), blocks + found.blocks
                 threads.append(thread)
                 rounds[thread] += 1
             elif self.sections.contents[state[sections.NAME * thread:][:sections.NAME]][0] != sections.RUNNING:
@@ -259,7 +263,8 @@ class Search:
                  until_answered: bool = False, walks: int = WALKS, tell: Callable[[int], bool] = lambda states: False,
                  before: bytes | None = None) -> None:
         self.asked, self.until_answered, self.many, self.tell = list(asked), until_answered, walks, tell
-        self.is_stopped = False
+        self.is_stopped = self.whole = False
+        self.shares: Shares
         self.mark = hashlib.blake2b(repr((VERSION, guest.ranges, guest.entries, guest.guards, fuel, self.asked)).encode()).digest()
         if before is not None:
             self.resume(guest, fuel, most, before)
@@ -273,24 +278,27 @@ class Search:
     def search(self, guest: model.Guest, fuel: int, most: int, processes: int, whole: bool) -> None:
         """Searches in this process, and where that takes long in several."""
         self.all_kept = whole
-        self.shares = Shares(guest, fuel, self.asked, 1, whole)
-        self.begin()
-        self.run(min(most, ALONE) if processes > 1 else most)
-        if not self.whole and not self.done() and not self.is_stopped and self.states < most:
-            del self.shares  # its memory goes before others have copies of it
-            self.shares = Shares(guest, fuel, self.asked, processes, whole)
-            self.begin()
-            self.run(most)
+        for count, some in (1, min(most, ALONE) if processes > 1 else most), (processes, most):
+            if count > 1:
+                del self.shares  # its memory goes before others have copies of it
+            self.shares = Shares(guest, fuel, self.asked, count, whole)
+            self.states: int = 0
+            self.answers: dict[str, tuple[int, int]] = {}
+            self.shares.all("first")
+            self.run(some)
+            if self.is_answered() or self.states >= most:
+                break
         self.finish()
 
-    def begin(self) -> None:
-        self.states: int = 0
-        self.answers: dict[str, tuple[int, int]] = {}
-        self.shares.all("first")
+    def is_answered(self) -> bool:
+        """Whether nothing more is to be searched."""
+        return self.whole or self.is_stopped or self.done()
 
     def finish(self) -> None:
-        self.rules = {text: rules.Rule(text, *self.shares.sizes) for text in self.asked}
-        self.walks = [] if self.whole or self.done() or self.is_stopped else self.walk()
+        """Walks to the end from where the search stopped."""
+        many = 0 if self.is_answered() else -(-self.many // self.shares.count)
+        walks = self.shares.all("walked", *([seed, many] for seed in range(self.shares.count)))
+        self.walks: list[Walk] = [walk for some in walks for walk in some]
 
     def resume(self, guest: model.Guest, fuel: int, most: int, before: bytes) -> None:
         """Goes on where a search stopped, with as many processes as it had."""
@@ -325,7 +333,7 @@ class Search:
             counts = [number for number in self.shares.all("next_count") if number is not None]
             self.whole = not counts
             self.is_stopped = not self.whole and self.tell(self.states)
-            if self.whole or self.is_stopped or self.states >= most or self.done():
+            if self.is_answered() or self.states >= most:
                 return
             self.level(min(counts), min(most - self.states, AT_ONCE * self.shares.count))
 
@@ -342,16 +350,11 @@ class Search:
                 [part for other in numbers if other != number for part in found[other][1]],
                 [some for other in numbers for some in found[other][2][number]]] for number in numbers])
 
-    def walk(self) -> list[Walk]:
-        many = -(-self.many // self.shares.count)
-        words = [[seed, many] for seed in range(self.shares.count)]
-        return [walk for walks in self.shares.all("walked", *words) for walk in walks]
-
     def answer(self, text: str) -> Way | None:
         """A way to an end of which a rule holds, a shortest one where the search found it; or None."""
         if text in self.answers:
             return self.way(*self.answers[text])
-        holds = self.rules[text].holds
+        holds = rules.Rule(text, *self.shares.sizes).holds
         return next((self.behind(walk) for walk in self.walks if holds(walk.end)), None)
 
     def ends(self) -> list[tuple[rules.End, Any]]:
@@ -393,10 +396,7 @@ class Search:
 
 def combinations(walks: list[Walk]) -> float:
     """How many choices of places there are for the threads, by some ways to the end."""
-    total = 1.0
-    for thread in range(len(walks[0].rounds) if walks else 0):
-        total *= 1 + sum(walk.rounds[thread] for walk in walks) / len(walks)
-    return total
+    return float(math.prod(1 + sum(rounds) / len(walks) for rounds in zip(*(walk.rounds for walk in walks))))
 
 
 def expected(guest: model.Guest, fuel: int, walks: int = 32) -> float:

@@ -9,7 +9,7 @@ from __future__ import annotations
 
 import hashlib
 import struct
-from typing import Any, Iterator
+from typing import Any, Iterator, NamedTuple, Tuple
 
 from .. import limits
 from ..guest import model
@@ -66,13 +66,11 @@ def place(word: int) -> int:
     return LOCK.size + 4 * word
 
 
-class Result:
+class Result(NamedTuple):
     """What a section comes to: its thread's part, changes of locks, how many blocks it has."""
-
-    __slots__ = ("thread", "changes", "count")
-
-    def __init__(self, thread: bytes, changes: tuple[Change, ...], count: int) -> None:
-        self.thread, self.changes, self.count = thread, changes, count
+    thread: bytes
+    changes: Tuple[Change, ...]
+    blocks: int
 
 
 class Node:
@@ -83,8 +81,7 @@ class Node:
     __slots__ = ("known", "places", "after")
 
     def __init__(self, above: Node | None, places: list[tuple[int, int, int, int]]) -> None:
-        self.known: frozenset[tuple[int, int, int, int]] = frozenset(places).union(above.known if above
-                                                                                   else ())
+        self.known: frozenset[tuple[int, int, int, int]] = frozenset(places).union(above.known if above else ())
         # As few spans: start and stop of the lock's name, and of the bytes.
         self.places: list[tuple[int, int, int, int]] = []
         for start, stop, low, high in sorted(places):
@@ -104,7 +101,8 @@ class Sections:
         self.threads, self.locks = len(guest.entries), len(guest.guards)
         self.guest = blocks.Guest(guest, self.live)
         self.contents: dict[bytes, bytes] = {}
-        self.starts, self.nodes = {}, {}  # type: dict[bytes, Any], dict[bytes, Any]
+        self.starts: steps.Found[bytes, tuple[Any, ...]] = steps.Found(self.start)
+        self.nodes: dict[bytes, Any] = {}
         self.fresh: list[tuple[bytes, bytes]] = []
         self.rounds: dict[Any, Any] = {}  # of a thread's part: how many sections its thread had when it was first met
 
@@ -130,12 +128,12 @@ class Sections:
         if run.end:
             content = THREAD.pack(run.end, 0, steps.number(run.x, 10))
         else:
-            held, read = sorted(run.held()), self.live.at(run.pc) if self.live else steps.ALL
+            held, read = sorted(run.held()), self.live.at(run.pc) if self.live else steps.MASK
             x = [steps.number(run.x, register) if read >> register & 1 else 0 for register in range(32)]
             parts = [THREAD.pack(RUNNING, len(held), x[10]), REST.pack(*x, run.pc, run.fuel), bytes(held)]
             for number in sorted(run.pages):
                 page = bytes(run.pages[number])
-                if page != self.guest.places.page(number):
+                if page != self.guest.pages[number]:
                     parts += (number.to_bytes(4, "little"), page)
             content = b"".join(parts)
         name = self.part(content)
@@ -144,9 +142,7 @@ class Sections:
 
     def running(self, name: bytes, state: bytes) -> blocks.Running | None:
         """The thread of a part in a state; None where it has ended."""
-        start = self.starts.get(name)
-        if start is None:
-            start = self.starts[name] = self.start(self.contents[name])
+        start = self.starts[name]
         if not start:
             return None
 
@@ -157,9 +153,9 @@ class Sections:
         x, pc, fuel, pages, held = start
         return blocks.Running(self.guest, x, pc, fuel, pages, held, look)
 
-    @staticmethod
-    def start(content: bytes) -> tuple[Any, ...]:
+    def start(self, name: bytes) -> tuple[Any, ...]:
         """The registers, program counter, fuel, pages and locks of a thread's part; () where it has ended."""
+        content = self.contents[name]
         how, held, _ = THREAD.unpack_from(content)
         if how != RUNNING:
             return ()
@@ -236,15 +232,15 @@ class Sections:
     @staticmethod
     def behind(state: bytes, place: int, found: Result) -> bytes:
         """The state behind a section of the thread whose name stands at a place."""
-        changes = found.changes
+        thread, changes, _ = found
         if len(changes) == 1:
             change, = changes
             start, stop = change.start, change.stop
             before = state[start:stop]
-            return b"".join((state[:place], found.thread, state[place + NAME:start],
+            return b"".join((state[:place], thread, state[place + NAME:start],
                              change.after.get(before) or change.of(before), state[stop:]))
         new = bytearray(state)
-        new[place:place + NAME] = found.thread
+        new[place:place + NAME] = thread
         for change in changes:
             before = state[change.start:change.stop]
             new[change.start:change.stop] = change.after.get(before) or change.of(before)

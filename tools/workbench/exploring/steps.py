@@ -6,27 +6,40 @@ They do what model.py does, only faster; tools/tests compares the two block by b
 from __future__ import annotations
 
 from functools import partial
-from typing import TYPE_CHECKING, Callable, List, Union
+from typing import TYPE_CHECKING, Any, Callable, Dict, List, NamedTuple, TypeVar, Union
 
 from ..guest import model, rv32im
 from ..guest.model import Fault
 
 if TYPE_CHECKING:
-    from .blocks import Held, Running
+    from .blocks import Running
 
 MASK = 0xFFFFFFFF
+Key = TypeVar("Key")
+Value = TypeVar("Value")
 
 
-class Sum:
+class Found(Dict[Key, Value]):
+    """What is found of a key, once."""
+
+    def __init__(self, find: Callable[[Key], Value]) -> None:
+        super().__init__()
+        self.find = find
+
+    def __missing__(self, key: Key) -> Value:
+        value = self[key] = self.find(key)
+        return value
+
+
+class Sum(NamedTuple):
     """A word of a lock as a section found it, not looked at so far, and a number that was added to it."""
-
-    __slots__ = ("lock", "word", "found", "added")
-
-    def __init__(self, lock: Held, word: int, found: int, added: int) -> None:
-        self.lock, self.word, self.found, self.added = lock, word, found, added
+    lock: Any  # blocks.Held
+    word: int
+    found: int
+    added: int
 
     def plus(self, number: int) -> Sum:
-        return Sum(self.lock, self.word, self.found, self.added + number & MASK)
+        return self._replace(added=self.added + number & MASK)
 
     def look(self) -> int:
         """The number itself: what comes of the section depends on the word from here on."""
@@ -50,7 +63,6 @@ def number(x: Registers, register: int) -> int:
     return value
 
 
-ALL = 2**32 - 1
 X10 = 10
 LINKS = 1, 5  # the registers that a return goes by
 
@@ -98,20 +110,20 @@ class Live:
             return []
         read, written = rv32im.registers(what)
         self.reads[pc] = sum(1 << register for register in {*read, X10}), 1 << written
-        after, behind = [pc + 4 & ALL], []
+        after, behind = [pc + 4 & MASK], []
         if what.name in ("jal", "jalr") and what.to:
-            self.returns.add(pc + 4 & ALL)
+            self.returns.add(pc + 4 & MASK)
             behind = after
         if is_return(what):
             returning.append(pc)
             after = []
         elif what.name == "jalr":
-            self.reads[pc] = ALL, 0
+            self.reads[pc] = MASK, 0
             after = []
         elif what.name == "jal":
-            after = [pc + what.value & ALL]
+            after = [pc + what.value & MASK]
         elif what.name[0] == "b":
-            after = after + [pc + what.value & ALL]
+            after = after + [pc + what.value & MASK]
         for place in after:
             self.before.setdefault(place, []).append(pc)
         return after + behind
@@ -130,7 +142,7 @@ class Live:
                     changed.append(place)
 
     def at(self, pc: int) -> int:
-        return self.bits.get(pc, ALL)
+        return self.bits.get(pc, MASK)
 
     def expect(self, place: int) -> None:
         """Elsewhere where a return can't be expected to go to a place with code."""
@@ -138,53 +150,42 @@ class Live:
             raise Elsewhere
 
 
-class Code:
-    """The steps of a guest's instructions by their addresses. With a Live, a return must go where that
-    one takes for granted that it goes."""
-
-    def __init__(self, guest: model.Guest, known: Live | None = None) -> None:
-        self.guest, self.known = guest, known
-        self.steps: dict[int, Step] = {}
-
-    def at(self, pc: int) -> Step:
-        if pc not in self.steps:
-            self.steps[pc] = self.decoded(self.guest.word(pc), pc)
-        return self.steps[pc]
-
-    def decoded(self, word: int | None, pc: int) -> Step:
-        """The step of a word at an address."""
-        what = None if word is None else rv32im.decode(word)
-        if what is None:
-            return partial(raising, 2 if word is None else 1)
-        name, to, a, b, value = what
-        after = pc + 4 & MASK
-        if not to and name in (*model.OPERATIONS, *model.IMMEDIATES):
-            return partial(constant, 0, 0, after)
-        if name in ("lui", "auipc"):
-            return partial(constant, to, value + (pc if name == "auipc" else 0) & MASK, after)
-        if name == "jal":
-            return partial(raising, 3) if value % 4 else partial(constant, to, after, pc + value & MASK)
-        if name == "jalr":
-            return partial(indirect, to, a, value, after, self.known if is_return(what) else None)
-        if name in model.COMPARISONS:
-            return partial(branch, model.COMPARISONS[name], a, b, pc + value & MASK, after)
-        if name in rv32im.WIDTHS:
-            width = rv32im.WIDTHS[name]
-            if name[0] == "s":
-                return partial(store, a, b, value, width, after)
-            return partial(load, to, a, value, width, name in model.SIGNED, after)
-        if name in ("add", "sub"):
-            a, b = (b, a) if name == "add" and to == b else (a, b)
-            return partial(sum_of, to, a, b, 1 if name == "add" else -1, after)
-        if name == "addi":
-            return partial(added, to, a, value, after)
-        if name in model.IMMEDIATES:
-            return partial(with_immediate, model.OPERATIONS[model.IMMEDIATES[name]], to, a, value, after)
-        if name in model.OPERATIONS:
-            return partial(with_registers, model.OPERATIONS[name], to, a, b, after)
-        if name == "ecall":
-            return CALL
-        return partial(raising, 8) if name == "ebreak" else partial(constant, 0, 0, after)
+def decoded(guest: model.Guest, known: Live | None, pc: int) -> Step:
+    """The step of a guest's instruction at an address. With a Live, a return must go where that one takes for
+    granted that it goes."""
+    word = guest.word(pc)
+    what = None if word is None else rv32im.decode(word)
+    if what is None:
+        return partial(raising, 2 if word is None else 1)
+    name, to, a, b, value = what
+    after = pc + 4 & MASK
+    if not to and name in (*model.OPERATIONS, *model.IMMEDIATES):
+        return partial(constant, 0, 0, after)
+    if name in ("lui", "auipc"):
+        return partial(constant, to, value + (pc if name == "auipc" else 0) & MASK, after)
+    if name == "jal":
+        return partial(raising, 3) if value % 4 else partial(constant, to, after, pc + value & MASK)
+    if name == "jalr":
+        return partial(indirect, to, a, value, after, known if is_return(what) else None)
+    if name in model.COMPARISONS:
+        return partial(branch, model.COMPARISONS[name], a, b, pc + value & MASK, after)
+    if name in rv32im.WIDTHS:
+        width = rv32im.WIDTHS[name]
+        if name[0] == "s":
+            return partial(store, a, b, value, width, after)
+        return partial(load, to, a, value, width, name in model.SIGNED, after)
+    if name in ("add", "sub"):
+        a, b = (b, a) if name == "add" and to == b else (a, b)
+        return partial(sum_of, to, a, b, 1 if name == "add" else -1, after)
+    if name == "addi":
+        return partial(added, to, a, value, after)
+    if name in model.IMMEDIATES:
+        return partial(with_immediate, model.OPERATIONS[model.IMMEDIATES[name]], to, a, value, after)
+    if name in model.OPERATIONS:
+        return partial(with_registers, model.OPERATIONS[name], to, a, b, after)
+    if name == "ecall":
+        return CALL
+    return partial(raising, 8) if name == "ebreak" else partial(constant, 0, 0, after)
 
 
 def raising(number: int, x: Registers, run: Running) -> int:

@@ -8,7 +8,8 @@ from __future__ import annotations
 
 import itertools
 import re
-from typing import Any, Iterable
+from random import Random
+from typing import Any, Callable, Iterator, List, Sequence
 
 from .. import limits, tool
 from ..guest import guestfile, model
@@ -25,6 +26,7 @@ LINE = re.compile(
     f"block {NUMBER} thread {NUMBER} turns {NUMBER} held (-|{LOCK}(?:,{LOCK})*) kind ({'|'.join(limits.KINDS)}) "
     f"worker {NUMBER} pc ([0-9a-f]{{8}}) end ((?:wants|unlocked) {LOCK}|slept|cut|exit|fault {FAULT}|spent)", re.ASCII)
 DIGITS = 10  # no number of a line has more
+Form = Callable[[Random, List[report.Block]], str]  # of spoil.py
 
 
 def block_of(line: str, stamp: int) -> report.Block | None:
@@ -93,15 +95,6 @@ class Checker(legal.Run):
         return None if self.is_over() else (len(blocks) + 1, INCOMPLETE)
 
 
-def profile_text(run: legal.Run, blocks: list[report.Block]) -> str:
-    """What `profile` prints of a run's blocks, which are not rejected."""
-    return text_of(counts.counted(run, blocks).profile_lines())
-
-
-def text_of(lines: Iterable[str]) -> str:
-    return "".join(f"{line}\n" for line in lines)
-
-
 class Given:
     """What is given behind the words `replay` or `profile`: a file of so many bytes and a history; with the
     numbers of workers and fuel and the batch limit."""
@@ -132,9 +125,9 @@ class Given:
         """The status and the text of the program's answer."""
         if self.early:
             return self.early
-        if form == "profile":
-            return tool.DONE, profile_text(self.checker, self.blocks)
-        return tool.DONE, text_of(self.checker.lines(self.blocks))
+        run, blocks = self.checker, self.blocks
+        lines = counts.counted(run, blocks).profile_lines() if form == "profile" else run.lines(blocks)
+        return tool.DONE, "".join(f"{line}\n" for line in lines)
 
 
 def history_of(text: str) -> bytes:
@@ -143,22 +136,25 @@ def history_of(text: str) -> bytes:
 
 
 def ask_both(file: bytes, numbers: tuple[int, ...], history: bytes, kept: str) -> Given:
-    """Gives a file and a history to both forms. Answers what the model has of it; Wrong where one differs."""
+    """Gives a file and a history to both forms. Answers what the model has of it; Wrong where the program answers
+    otherwise: the history is kept then, under a name."""
     given = Given(len(file), numbers, file + history)
     for form in "replay", "profile":
-        ask(form, file, numbers, history, given.answer(form), kept)
+        answers = program.run((form, len(file), *numbers), file + history), given.answer(form)
+        said, must = (f"status {status}, {text[:80]!r}" for status, text in answers)
+        if answers[0][0] == answers[1][0] == 0:
+            pairs = itertools.zip_longest(*(text.splitlines() for _, text in answers))
+            said, must = next(((line, other) for line, other in pairs if line != other), ("", ""))
+        if answers[0] != answers[1]:
+            where = program.keep(kept, history)
+            raise report.Wrong(f"{form} answers {said!r}, and not {must!r}, to the history in {where}")
     return given
 
 
-def ask(form: str, file: bytes, numbers: tuple[int, ...], history: bytes, wanted: tuple[int, str],
-        kept: str) -> None:
-    """Gives a file and a history to the program. Wrong where the answer is another one than is wanted; the
-    history is kept then, under a name."""
-    status, text = program.run((form, len(file), *numbers), file + history)
-    if (status, text) == wanted:
-        return
-    said, must = f"status {status}, {text[:80]!r}", f"status {wanted[0]}, {wanted[1][:80]!r}"
-    if not status and not wanted[0]:
-        pairs = itertools.zip_longest(text.splitlines(), wanted[1].splitlines())
-        said, must = next((line, other) for line, other in pairs if line != other)
-    raise report.Wrong(f"{form} answers {said!r}, and not {must!r}, to the history in {program.keep(kept, history)}")
+def give_back(file: bytes, numbers: tuple[int, ...], text: str, draw: Random, forms: Sequence[Form],
+              kept: str) -> Iterator[str | None]:
+    """Gives the history of a report back, and then changed ones of these forms. Answers of each of those for which
+    reason it is rejected, or None."""
+    blocks = ask_both(file, numbers, history_of(text), kept).blocks
+    for form in forms:
+        yield ask_both(file, numbers, form(draw, blocks).encode("ascii"), kept).reason
