@@ -1,5 +1,5 @@
-"""The scripts that measure, by a program that is made up; sweeps: their table against simulate and summary, and
-their pictures; and orders of a lock's waiters beside one another: by hand, and against the numbers of sweep."""
+"""The scripts that measure, by a program that is made up; sweeps: their table against simulate and summary,
+and their pictures; and orders of a lock's waiters: by hand, and against the numbers of sweep."""
 from __future__ import annotations
 
 import csv

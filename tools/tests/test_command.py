@@ -21,12 +21,13 @@ from .common import ROOT, Folder, process
 
 # The program's own line.
 USAGE = re.search(r'let line =\s+"(usage: [^"]*)\\n"', (ROOT / "crates/tc_main/src/answer.rt").read_text()).group(1).encode() + b"\n"  # type: ignore[union-attr]
-# Words that ask for something, and words that ask for nothing: those of the program's own table, in which the first line
-# is that of no words, `_` is a blank in a word, and `?` a byte that no text has; and some more.
+# Words that ask for something, and words that ask for nothing: those of the program's own table, in which the
+# first line is that of no words, `_` is a blank in a word, and `?` a byte that no text has; and some more.
 FORMS = ("run 1 1 0", "run 8 65536 256", "run 4 20000 8", "gen 1", "gen 2000", "demo 1 1", "demo 2000 8",
          "nodes 1 0 1 1 0", "nodes 8 256 8 65536 256", "nodes 2 4 4 2000 8", "replay 1 1 1 0", "replay 1048576 8 65536 256",
          "profile 1 1 1 0", "profile 1048576 8 65536 256")
-TABLE = re.search(r"const NO_FORM: &str = \"\\n\\\n([^\"]*)\";", (ROOT / "crates/tc_tests/src/outside.rt").read_text()).group(1)  # type: ignore[union-attr]
+OUTSIDE = (ROOT / "crates/tc_tests/src/outside.rt").read_text()
+TABLE = re.findall(r"const NO_FORM: &str = \"\\n\\\n([^\"]*)\";", OUTSIDE)[0]
 WRONG = [[word.encode().replace(b"_", b" ").replace(b"?", b"\xff") for word in line.split()]
          for line in ("", *TABLE.splitlines(), "run -1 1 0", "run 1 1 99999999999999999999", "-h", "run 1 1 ٣")]
 WRONG += [b"gen", b"1\n"], [b"gen", b""]
@@ -182,7 +183,8 @@ class Rules(unittest.TestCase):
     def test_each_form_of_the_usage_line_has_its_limits(self) -> None:
         forms = re.findall(r'^    "([a-z]+)((?: \d+-\d+)+)"$', self.script, re.M)
         told = [form.split()[1:] for form in re.search(r'usage="usage: (.*)"', self.script).group(1).split(" | ")]  # type: ignore[union-attr]
-        self.assertEqual([[name, len(some.split())] for name, some in forms], [[form[0], len(form) - 1] for form in told])
+        self.assertEqual([[name, len(some.split())] for name, some in forms],
+                         [[form[0], len(form) - 1] for form in told])
 
     def test_limits_are_those_of_the_program(self) -> None:
         constants = {}

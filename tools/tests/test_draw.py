@@ -315,6 +315,9 @@ class Pictures(Case):
 KEPT = ROOT / "docs" / "pictures"
 ARGUMENTS = {"process_name": ("name", str), "thread_name": ("name", str),
              "process_sort_index": ("sort_index", int), "thread_sort_index": ("sort_index", int)}
+FLOW: dict[str, type] = {"cat": str, "ts": int, "id": int}
+FIELDS: dict[str, dict[str, type]] = {"M": {"args": dict}, "X": {"cat": str, "ts": int, "dur": int, "args": dict},
+                                      "s": FLOW, "f": FLOW}
 
 
 class Trace(Case):
@@ -331,18 +334,14 @@ class Trace(Case):
         return complete, self.check_flows(trace["traceEvents"], complete)
 
     def check_event(self, event: Any) -> None:
-        self.assertIn(event["ph"], "XMsf")
-        self.assertTrue(isinstance(event["name"], str) and event["name"])
-        self.assertTrue(isinstance(event["pid"], int) and isinstance(event["tid"], int) and event["tid"] > 0)
+        for name, kind in {"name": str, "pid": int, "tid": int, **FIELDS[event["ph"]]}.items():
+            value = event.get(name, {}) if name == "args" else event[name]
+            self.assertIsInstance(value, kind, event)
+            self.assertTrue(value or name in ("ts", "args"), event)
+            self.assertTrue(kind is not int or value >= 0, event)
         if event["ph"] == "M":
             name, kind = ARGUMENTS[event["name"]]
             self.assertIsInstance(event["args"][name], kind)
-            return
-        self.assertTrue(isinstance(event["cat"], str) and event["cat"])
-        self.assertTrue(isinstance(event["ts"], int) and event["ts"] >= 0)
-        if event["ph"] == "X":
-            self.assertTrue(isinstance(event["dur"], int) and event["dur"] > 0)
-            self.assertIsInstance(event.get("args", {}), dict)
 
     def check_lanes(self, events: Any, complete: Any) -> None:
         named = {name: [(event["pid"], event["tid"]) for event in events if event["name"] == name]

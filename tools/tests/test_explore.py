@@ -167,8 +167,9 @@ class EveryInterleaving(Case):
     def test_a_return_to_a_place_behind_no_call(self) -> None:
         """Which registers are read again is not known then, so all are kept."""
         for link in steps.LINKS:
-            code = made.code(f"{BEGIN} LOCK 0; lw 7 5 0; addi 6 7 0; {one_of(random.Random(1), 0, *TWICE)} UNLOCK 0; auipc {link} 0; "
-                             f"addi {link} {link} 16; jalr 0 {link} 0; ebreak; LOCK 0; UNLOCK 0; addi 10 6 0; EXIT")
+            code = made.code(
+                f"{BEGIN} LOCK 0; lw 7 5 0; addi 6 7 0; {one_of(random.Random(1), 0, *TWICE)} UNLOCK 0; auipc {link} 0;"
+                f"addi {link} {link} 16; jalr 0 {link} 0; ebreak; LOCK 0; UNLOCK 0; addi 10 6 0; EXIT")
             found, ends = self.same(built(code, (0, 0), 1), 100)
             self.assertIsNone(found.shares.alone.sections.live)  # type: ignore[union-attr]
             self.assertEqual({tuple(x10 for _, x10 in end.threads) for end in ends}, {(0, 1), (1, 0)})
@@ -188,8 +189,9 @@ class EveryInterleaving(Case):
             chance = random.Random(seed)
             ways = "add 7 7 9", "add 9 7 9; addi 7 9 1", "sub 7 7 9", "add 7 7 7; sub 7 7 9"
             one, other = (made.code(
-                f"{BEGIN} LOCK 0; LOCK 1; lw 7 5 0; lw 9 5 4; {way}; sw 7 5 0; {one_of(chance, 1, *TWICE)} UNLOCK 1; "
-                f"UNLOCK 0; LOCK 1; {one_of(chance, 1, *ADD)} UNLOCK 1; EXIT") for way in (ways[seed], chance.choice(ways)))
+                f"{BEGIN} LOCK 0; LOCK 1; lw 7 5 0; lw 9 5 4; {way}; sw 7 5 0; {one_of(chance, 1, *TWICE)} UNLOCK 1;"
+                f"UNLOCK 0; LOCK 1; {one_of(chance, 1, *ADD)} UNLOCK 1; EXIT")
+                for way in (ways[seed], chance.choice(ways)))
             self.same(of_two(one, other, [3, 5]), 100)
 
     def test_a_lock_that_is_taken_for_some_bytes_alone(self) -> None:

@@ -180,39 +180,25 @@ def ranges_text(ranges: list[elf32.Header], flag: int) -> str:
     return ", ".join(span(one.range) for one in ranges if one.flags & flag) or "there is none"
 
 
-class Symbols:
-    """Names of addresses, from the symbol table, where the file has one."""
-
-    def __init__(self, file: bytes) -> None:
-        names: dict[int, str] = {}
-        for address, name, info in sorted(elf32.symbols(file), key=lambda symbol: symbol[2] < 16):
-            if info & 15 in (0, 1, 2) and name and not name.startswith((".", "$")):
-                names.setdefault(address, name)  # a global one where there are several
-        self.addresses = sorted(names)
-        self.names = names
-
-    def at(self, address: int, inside: range) -> str:
-        """The name of the nearest symbol at or below an address in some addresses, or ''."""
-        place = bisect.bisect_right(self.addresses, address) - 1
-        if place < 0 or self.addresses[place] not in inside:
-            return ""
-        start = self.addresses[place]
-        return self.names[start] + (f"+{address - start:#x}" if address > start else "")
-
-
 class GuestFile:
-    """An accepted file: what it means, its bytes and its symbols."""
+    """An accepted file: what it means, and its symbols by address, where it has some."""
 
     def __init__(self, file: bytes) -> None:
         check(file)
-        self.guest, self.symbols = model.Guest(file), Symbols(file)
+        self.guest, self.symbols = model.Guest(file), {}  # type: model.Guest, dict[int, str]
+        for address, name, info in sorted(elf32.symbols(file), key=lambda symbol: symbol[2] < 16):
+            if info & 15 in (0, 1, 2) and name and not name.startswith((".", "$")):
+                self.symbols.setdefault(address, name)  # a global one where there are several
+        self.addresses = sorted(self.symbols)
 
     def name(self, address: int) -> str:
-        """The symbol of an address in a range, or ''."""
-        for addresses, _, _ in self.guest.ranges:
-            if address in addresses:
-                return self.symbols.at(address, addresses)
-        return ""
+        """The nearest symbol at or below an address in the same range, or ''."""
+        inside = next((addresses for addresses, _, _ in self.guest.ranges if address in addresses), range(0))
+        place = bisect.bisect_right(self.addresses, address)
+        start = self.addresses[place - 1] if place else -1
+        if start not in inside:
+            return ""
+        return self.symbols[start] + (f"+{address - start:#x}" if address > start else "")
 
     def guard_at(self, address: int) -> int | None:
         """The number of the guard that has an address, or None."""

@@ -43,41 +43,26 @@ def check_number(name: str, number: int | None, count: int) -> None:
         raise tool.Trouble(tool.WRONG, f"the report has {report.several(count, name)}, and no {name} {number}")
 
 
-class Chosen:
-    """Which blocks are shown."""
-
-    def __init__(self, asked: argparse.Namespace) -> None:
-        self.thread, self.lock, self.trace = asked.thread, asked.lock, asked.trace
-        self.first, self.last = asked.block or (0, None)  # type: int, int | None
-        if asked.trace is not None and asked.block is None and self.thread is None and self.lock is None:
-            self.first = self.last = asked.trace
-
-    def check(self, text: report.Report) -> None:
-        for name, number, count in (("thread", self.thread, text.threads), ("lock", self.lock, text.guards)):
-            check_number(name, number, count)
-
-    def block(self, block: report.Block) -> bool:
-        return ((self.thread is None or block.thread == self.thread)
-                and (self.lock is None or self.lock in block.held or block.wanted == self.lock)
-                and self.first <= block.stamp and (self.last is None or block.stamp <= self.last))
-
-
 class Explainer:
     """Follows the blocks by the model, which knows where each begins, and says it of the chosen ones."""
 
-    def __init__(self, file: guestfile.GuestFile, text: report.Report, lines: Any, chosen: Chosen,
-                 with_contexts: bool) -> None:
-        self.file, self.text, self.lines, self.chosen = file, text, lines, chosen
+    def __init__(self, file: guestfile.GuestFile, text: report.Report, lines: Any, asked: argparse.Namespace) -> None:
+        self.file, self.text, self.lines, self.asked = file, text, lines, asked
         self.run, self.counts = legal.begin(file.guest, text), counts.Counts(text)
-        self.contexts = tracing.Contexts(self.run.machine, self.counts) if with_contexts else None
+        self.contexts = tracing.Contexts(self.run.machine, self.counts) if asked.contexts else None
+
+    def is_chosen(self, block: report.Block) -> bool:
+        thread, lock, (first, last) = self.asked.thread, self.asked.lock, self.asked.block or (0, block.stamp)
+        return (thread in (None, block.thread) and first <= block.stamp <= last
+                and (lock is None or lock in block.held or block.wanted == lock))
 
     def all(self) -> None:
         for block in self.text.blocks():
             said = list(self.block(block))
-            if self.chosen.block(block):
+            if self.is_chosen(block):
                 print("\n".join(said))
         for number, thread in enumerate(self.run.machine.threads):
-            is_chosen = self.chosen.thread in (None, number) and self.chosen.lock is self.chosen.last is None
+            is_chosen = self.asked.thread in (None, number) and self.asked.lock is self.asked.block is None
             if thread.end is None and is_chosen:
                 print(f"  thread {number} has not ended: it goes on at {reasons.start_text(self.file, thread, self.lines)}")
         if self.contexts:
@@ -87,7 +72,7 @@ class Explainer:
         """Runs a block, and says what there is to say of it."""
         thread, came = self.run.machine.threads[block.thread], self.counts.threads[block.thread].before
         start, traced = reasons.start_text(self.file, thread, self.lines), []
-        if block.stamp == self.chosen.trace and thread.end is None:
+        if block.stamp == self.asked.trace and thread.end is None:
             traced = list(tracing.trace(self.run, self.file, self.lines, block.thread))
         moved = list(self.contexts.before(block)) if self.contexts else []
         batch = copy.copy(self.run.batches[block.begun]) if block.begun is not None and block.passed_on else None
@@ -104,11 +89,14 @@ class Explainer:
 
 
 def explain_report(file: guestfile.GuestFile, text: report.Report, asked: argparse.Namespace) -> None:
-    chosen, lines = Chosen(asked), sources.load(asked.guest, file)
-    chosen.check(text)
+    lines = sources.load(asked.guest, file)
+    for name, number, count in ("thread", asked.thread, text.threads), ("lock", asked.lock, text.guards):
+        check_number(name, number, count)
+    if asked.trace is not None and asked.block is asked.thread is asked.lock is None:
+        asked.block = asked.trace, asked.trace
     if lines.trouble:
         tool.note("explain", lines.trouble)
-    explainer = Explainer(file, text, lines, chosen, asked.contexts)
+    explainer = Explainer(file, text, lines, asked)
     explainer.all()
     for number in (asked.trace, asked.block and asked.block[0]):
         check_number("block", number, explainer.run.count)

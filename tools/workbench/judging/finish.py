@@ -15,9 +15,8 @@ from ..guest import guestfile
 from ..reports import report
 from . import legal
 
-PARTS = re.compile(r"(thread|turns|worker) (\d{1,9})\b|held (-|[\d,]+)|kind (\w+)|pc ([0-9a-f]{8})\b"
-                   r"|end (wants \d+|unlocked \d+|slept|cut|exit|fault \d+|spent)")
-PARTS_BEHIND = "held", "kind", "pc", "end"  # what the groups behind the first two are
+PARTS = re.compile(r"(?P<name>thread|turns|worker) (?P<number>\d{1,9})\b|held (?P<held>-|[\d,]+)|kind (?P<kind>\w+)"
+                   r"|pc (?P<pc>[0-9a-f]{8})\b|end (?P<end>wants \d+|unlocked \d+|slept|cut|exit|fault \d+|spent)")
 REST = re.compile(r"(thread \d+ (exit|fault|spent)|x\d+ |lock |data |end$)")
 
 
@@ -36,17 +35,13 @@ class Line:
             if not part:
                 raise report.Wrong(f"line {number}: {rest[:60]!r} is no part of a block line (thread T, "
                                    "turns K, held H, kind K, worker W, pc HEX8, end E)")
-            self.add(part)
+            key = str(part["name"] or part.lastgroup)
+            if key in self.parts:
+                raise report.Wrong(f"line {number}: {key} stands there twice")
+            self.parts[key] = int(part["number"]) if part["name"] else part[key]
             rest = rest[part.end():].lstrip(" ")
         if "thread" not in self.parts:
             raise report.Wrong(f"line {number}: it names no thread")
-
-    def add(self, part: re.Match[str]) -> None:
-        name, digits, *others = part.groups()
-        key, value = next((key, value) for key, value in zip((name, *PARTS_BEHIND), (digits, *others)) if value)
-        if key in self.parts:
-            raise report.Wrong(f"line {self.number}: {key} stands there twice")
-        self.parts[key] = int(value) if key == name else value
 
     def check(self, run: legal.Run) -> None:
         """Wrong where the line names something that the run doesn't have."""
