@@ -59,7 +59,8 @@ def check_facts(known: dict[str, list[Any]], machine: model.Machine, fuel: int) 
 
 
 def run(file: bytes, words: tuple[Any, ...]) -> tuple[str, model.Machine]:
-    """The report of a run, and the machine behind it; Wrong where the report is not that of a legal run."""
+    """The report of a run, and the machine behind it; Wrong where the report is not that of a legal run, or of one
+    worker not the model's to the last byte."""
     guest, (status, text) = model.Guest(file), program.run(words, file)
     workers, fuel, batch = words[-3:]
     if status:
@@ -67,8 +68,11 @@ def run(file: bytes, words: tuple[Any, ...]) -> tuple[str, model.Machine]:
     if f"\nrun workers {workers} fuel {fuel} batch {batch}\n" not in text:
         raise report.Wrong("the report is of another run")
     machine = legal.replay_whole(guest, text)
-    if workers == 1:
-        delegation.check_alone(guest, fuel, batch, text)
+    alone, blocks = delegation.delegated(guest, fuel, 1, batch) if workers == 1 else (None, [])
+    pairs = itertools.zip_longest(text.splitlines(), alone.lines(blocks)) if alone else ()
+    for number, (line, wanted) in enumerate(pairs, 1):
+        if line != wanted:
+            raise report.Wrong(f"line {number} is {line!r}, and by the model {wanted!r}")
     return text, machine
 
 

@@ -38,26 +38,29 @@ are the numbers that ./tclocks profile prints.
 # The names of the numbers that the program prints with `profile`.
 LOCK_PROFILE = "sections", *SECTIONS, "longest", "changes", "home"
 THREAD_PROFILE = "blocks", "turns", "moves"
+# With those that are counted beside them.
+OF_LOCK = *LOCK_PROFILE, "away", "waiting", "longest_wait", "fairness", "turns"
+OF_THREAD = *THREAD_PROFILE, "turns_held", "away", "sleeps", "waiting", "longest_wait", "end"
 
 
 class Waits:
-    """The waits of some sections: their sum and the longest."""
+    """How many sections there were, the blocks that they waited in sum, and the longest wait."""
 
     def __init__(self) -> None:
-        self.sections = self.sum = self.longest = 0
+        self.sections = self.waiting = self.longest_wait = 0
 
-    def add(self, block: report.Block, before: report.Block | None) -> None:
+    def add_wait(self, block: report.Block, before: report.Block | None) -> None:
         """Of a section: the blocks between it and its thread's block before, which came to the LOCK."""
         wait = 0 if before is None else block.stamp - before.stamp - 1
         self.sections += 1
-        self.sum += wait
-        self.longest = max(self.longest, wait)
+        self.waiting += wait
+        self.longest_wait = max(self.longest_wait, wait)
 
 
-class LockCounts:
+class LockCounts(Waits):
     def __init__(self) -> None:
-        self.kinds: Counter[str] = Counter()
-        self.turns = self.away = 0
+        super().__init__()
+        self.taken = self.adopted = self.granted = self.turns = self.away = 0
         self.row = self.rows = self.longest = self.home = 0
         self.changed: Counter[Any] = Counter()
         self.came: Counter[Any] = Counter()  # by two workers: that before, and that of the section
@@ -73,42 +76,31 @@ class LockCounts:
             self.home += home != self.home_worker
         self.came[home, block.worker] += 1
         self.home_worker = home
-        self.kinds[block.kind] += 1
+        vars(self)[block.kind] += 1
         self.away += away
         self.row = self.row + 1 if block.kind == "adopted" else 0
         self.rows += self.row == 1
         self.longest = max(self.longest, self.row)
-        self.waits.setdefault(block.thread, Waits()).add(block, before)
-
-    @property
-    def sections(self) -> int:
-        return sum(self.kinds.values())
+        self.add_wait(block, before)
+        self.waits.setdefault(block.thread, Waits()).add_wait(block, before)
 
     @property
     def changes(self) -> int:
         return apart(self.changed)
 
     @property
-    def waiting(self) -> int:
-        return sum(waits.sum for waits in self.waits.values())
-
-    @property
-    def longest_wait(self) -> int:
-        return max((waits.longest for waits in self.waits.values()), default=0)
-
-    @property
     def fairness(self) -> float | None:
         """None where no thread took the lock."""
-        means = [waits.sum / waits.sections for waits in self.waits.values()]
+        means = [waits.waiting / waits.sections for waits in self.waits.values()]
         if not any(means):
             return 1.0 if means else None
         return round(sum(means) ** 2 / (len(means) * sum(mean * mean for mean in means)), 3)
 
 
-class ThreadCounts:
+class ThreadCounts(Waits):
     def __init__(self) -> None:
-        self.blocks = self.turns = self.held = self.moves = self.away = self.sleeps = 0
-        self.waits = Waits()
+        super().__init__()
+        self.blocks = self.turns = self.turns_held = self.moves = self.away = self.sleeps = 0
         self.before: report.Block | None = None
         self.own: int | None = None  # the worker that ran its last block without a lock
         self.end: str | None = None
@@ -116,12 +108,12 @@ class ThreadCounts:
     def add(self, block: report.Block, away: bool) -> None:
         self.blocks += 1
         self.turns += block.turns
-        self.held += block.turns if block.held else 0
+        self.turns_held += block.turns if block.held else 0
         self.away += away
         self.sleeps += block.end == "slept"
         self.moves += self.before is not None and self.before.worker != block.worker
         if block.begun is not None:
-            self.waits.add(block, self.before)
+            self.add_wait(block, self.before)
         if not block.held:
             self.own = block.worker
         self.before = block
@@ -174,19 +166,14 @@ class Counts:
 
     def lock_row(self, number: int, lock: LockCounts) -> dict[str, Any]:
         ends = getattr(self.text, "lock_ends", ())
-        return {"lock": number, "sections": lock.sections, **{kind: lock.kinds[kind] for kind in SECTIONS},
-                "longest": lock.longest, "changes": lock.changes, "home": lock.home, "away": lock.away,
-                "waiting": lock.waiting, "longest_wait": lock.longest_wait, "fairness": lock.fairness,
-                "turns": lock.turns, "broken": ends[number].broken if number < len(ends) else None}
+        return {"lock": number, **{name: getattr(lock, name) for name in OF_LOCK},
+                "broken": ends[number].broken if number < len(ends) else None}
 
     def thread_row(self, number: int, thread: ThreadCounts) -> dict[str, Any]:
         ends = getattr(self.text, "thread_ends", ())
         end = ends[number] if number < len(ends) else None
-        return {"thread": number, "blocks": thread.blocks, "turns": thread.turns, "moves": thread.moves,
-                "turns_held": thread.held, "away": thread.away, "sleeps": thread.sleeps,
-                "waiting": thread.waits.sum, "longest_wait": thread.waits.longest, "end": thread.end,
-                "fuel_left": end.fuel if end else None,
-                "x10": end.x[10] if end and len(end.x) == 32 else None}
+        return {"thread": number, **{name: getattr(thread, name) for name in OF_THREAD},
+                "fuel_left": end.fuel if end else None, "x10": end.x[10] if end and len(end.x) == 32 else None}
 
 
 def counted(text: Any, blocks: Iterable[report.Block]) -> Counts:

@@ -203,12 +203,3 @@ def delegated(guest: model.Guest, fuel: int, workers: int, limit: int, seed: int
     """The run and its blocks that the seed stands for, which one worker alone does not look at."""
     hall = Hall(guest, workers, fuel, limit, seed, version, nodes, bound)
     return hall.run, hall.history()
-
-
-def check_alone(guest: model.Guest, fuel: int, limit: int, report_text: str) -> None:
-    """Wrong where a report of one worker is not the model's, to the last byte."""
-    run, blocks = delegated(guest, fuel, 1, limit)
-    pairs = itertools.zip_longest(report_text.splitlines(), run.lines(blocks))
-    for number, (line, wanted) in enumerate(pairs, 1):
-        if line != wanted:
-            raise report.Wrong(f"line {number} is {line!r}, and by the model {wanted!r}")

@@ -90,8 +90,7 @@ def counted(setting: Setting, shape: Any, blocks: Iterable[report.Block], second
         result.add(block)
         if block.begun is not None:
             owners[block.begun].append(block.worker)
-    return Result(setting, [{"sections": lock.sections, **{kind: lock.kinds[kind] for kind in limits.SECTIONS},
-                             **{name: getattr(lock, name) for name in NUMBERS[4:]},
+    return Result(setting, [{**{name: getattr(lock, name) for name in NUMBERS},
                              **{name: counts.apart(pairs, setting.nodes or 1)
                                 for name, pairs in zip(OF_NODES, (lock.changed, lock.came))}} for lock in result.locks],
                   owners, sum(worker.blocks for worker in result.workers),
