@@ -332,7 +332,6 @@ class Gate(unittest.TestCase):
         path.chmod(0o755)
 
     def gate(self, rt: str, workbench: str = "echo '1 passed, 0 failed'") -> tuple[int, list[str]]:
-        """The status and the lines of the gate."""
         self.script("bin/rt", f'[ "$1" = ci ] && [ $# = 1 ] || exit 9\n{rt}')
         self.script("workbench", f'[ "$*" = "check tools" ] || exit 9\necho tested\n{workbench}')
         done = process("bash", self.root / ".ci" / "run", stdin=subprocess.DEVNULL, env=self.environment)

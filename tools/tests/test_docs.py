@@ -59,7 +59,6 @@ class Kept(Case):
 
 
 def anchors(page: Path) -> list[str]:
-    """The anchors of a page's headings."""
     found = []
     for heading in re.findall(r"(?m)^#+ (.*)$", re.sub(r"(?s)```.*?```", "", page.read_text())):
         plain = re.sub(r"[^\w\- ]", "", re.sub(r"\[(.*?)\]\(.*?\)", r"\1", heading).lower())

@@ -196,7 +196,6 @@ GRANTED = WAITS.replace("batch 4", "batch 0").replace("kind adopted worker 0", "
 
 
 def lanes(text: str, *words: Any) -> tuple[dict[str, str], str]:
-    """The lanes by their names."""
     said = run("draw", "-", "--text", *words, given=text).stdout.decode()
     return dict(re.findall("^((?:thread|worker|lock) [0-9]+)(?: [^ ]+)? +(.*)$", said, re.M)), said
 

@@ -113,7 +113,6 @@ def read_lines(path: str | Path) -> Iterator[str]:
 
 
 def write_file(path: Path | str, content: bytes | str) -> None:
-    """Writes a text or bytes."""
     with writing(path), open(path, "wb") as file:
         file.write(content if isinstance(content, bytes) else content.encode("utf-8"))
 

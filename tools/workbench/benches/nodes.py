@@ -31,7 +31,6 @@ def row(name: str, order: tuple[int, int, int], results: list[sweep.Result]) -> 
 
 
 def measure(name: str, settings: list[sweep.Setting], to: table.Table) -> None:
-    """Prints the lines of a guest."""
     orders: dict[tuple[int, int, int], list[sweep.Result]] = {}
     for result in sweep.results(guests.file_of(name), settings):
         orders.setdefault(result.setting.order(), []).append(result)

@@ -52,7 +52,6 @@ def give_history(given: IO[bytes], report: IO[bytes]) -> tuple[int, int]:
 
 
 def measure(name: str, fuel: int, asked: Namespace, to: table.Table) -> None:
-    """Prints the line of a guest."""
     with tempfile.TemporaryFile() as given:
         file = given.write(guests.GUESTS[name]())
         given.flush()

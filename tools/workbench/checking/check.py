@@ -145,7 +145,6 @@ def check_reasons(answers: collections.Counter[str]) -> bool:
 
 
 def check_types() -> bool:
-    """Runs the type checker and the linter, where they are there."""
     failed = False
     for words in ["mypy"], ["pyflakes3", "tools", "workbench.py", "tclocks-build"]:
         if not shutil.which(words[0]):

@@ -107,7 +107,6 @@ class Beliefs:
             self.found.add(Word(crate, word.name))
 
     def take_definition(self, here: str, word: Word, path: Path) -> None:
-        """Takes in a definition of a file of specs."""
         if word.place not in self.specs:
             self.specs[word.place] = Spec(path)
         spec = self.specs[word.place]
@@ -144,7 +143,6 @@ class Beliefs:
             return
 
     def take_fields(self, crate: str, text: str, body: str) -> None:
-        """Takes in the types of a type's fields."""
         for name in re.findall(r"[:(<,] ?([A-Z]\w+)", body):
             other = re.search(rf"(?m)^use (tc_\w+)::[^;]*\b{name}\b", text)
             self.take_type(other[1] if other else crate, name)

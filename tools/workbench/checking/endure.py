@@ -11,6 +11,7 @@ It needs Linux and the built program, and takes about a minute.
 """
 from __future__ import annotations
 
+import contextlib
 import fcntl
 import os
 import pathlib
@@ -26,6 +27,7 @@ from typing import Any, Callable
 from .. import limits, progress, tool
 from ..guest import made
 from ..judging import rejecting
+from ..reports.report import Wrong
 from ..running import program
 
 MOST_MEMORY = 900  # of the largest guest, in MB, as bench/README.md says
@@ -34,10 +36,6 @@ SOME_PIPE = 4096  # bytes: the program waits at the end for who reads its report
 F_SETPIPE_SZ = 1031
 COUNTING = ("run", "2", "2000", "8")
 SLEEPING = ("run", "8", "65536", "0")
-
-
-class Wrong(Exception):
-    """What was not as it must be."""
 
 
 def need(holds: object, text: str) -> None:
@@ -68,10 +66,8 @@ class Place:
         """The processes that run this copy."""
         found = []
         for link in pathlib.Path("/proc").glob("[0-9]*/exe"):
-            try:
+            with contextlib.suppress(OSError):  # it has ended, or is another user's
                 found += [link.parent.name] * (os.readlink(link) == str(self.program))
-            except OSError:
-                pass  # it has ended, or is another user's
         return found
 
     def is_clean(self) -> None:
@@ -79,14 +75,11 @@ class Place:
         need(not list(self.empty.iterdir()), f"a file is left: {list(self.empty.iterdir())}")
 
     def start(self, file: bytes, words: tuple[str, ...], **more: Any) -> subprocess.Popen[bytes]:
-        """Starts the program over a file."""
         self.guest.write_bytes(file)
-        given: dict[str, Any] = {"stdin": open(self.guest, "rb"), "stdout": subprocess.PIPE, "stderr": subprocess.PIPE, **more}
-        try:
-            return subprocess.Popen([self.program, *words], cwd=self.empty, **given,
-                                    env={"HOME": str(self.empty), "TMPDIR": str(self.empty)})
-        finally:
-            given["stdin"].close()
+        around = {"HOME": str(self.empty), "TMPDIR": str(self.empty)}
+        streams: dict[str, Any] = {"stdout": subprocess.PIPE, "stderr": subprocess.PIPE, **more}
+        with open(self.guest, "rb") as given:
+            return subprocess.Popen([self.program, *words], cwd=self.empty, stdin=given, env=around, **streams)
 
     def run(self, file: bytes, words: tuple[str, ...], **more: Any) -> tuple[int, bytes]:
         """Runs it to its end: its status, and what it wrote."""
@@ -219,7 +212,6 @@ TRIALS = (runs_in_a_row, largest_guest, reader_that_ends, full_disk, closed_stre
 
 
 def tried(trial: Callable[[Place, int], str], folder: pathlib.Path, runs: int) -> bool:
-    """Whether a trial went well."""
     place, failed = Place(folder), None
     try:
         said = trial(place, runs)

@@ -114,7 +114,6 @@ def refuse_each(library: pathlib.Path, case: Case, times: int, later: bool) -> t
 
 
 def asked(given: list[str]) -> tuple[tuple[str, ...], bytes]:
-    """The words and the file of the run."""
     parser = tool.words("refuse", __doc__)
     for (name, some), usual in zip(limits.RUN.items(), (2, 2000, 8)):
         parser.number(name, some, usual=usual, metavar=name[0].upper(), nargs="?")

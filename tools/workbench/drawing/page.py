@@ -34,7 +34,6 @@ class Player:
         self.bytes: list[bytes] = []
 
     def play(self, block: report.Block) -> None:
-        """Runs a block of the window."""
         thread = self.machine.threads[block.thread]
         self.starts[block.stamp] = reasons.start_text(self.file, thread, self.lines)
         before, locks = state(thread), [(lock, bytes(self.machine.locks[lock].bytes)) for lock in block.held]

@@ -132,7 +132,6 @@ def ratio(one: str, other: str = "") -> Callable[[sweep.Result], float]:
 
 
 def panels(name: str, results: list[sweep.Result]) -> str:
-    """The plots of a sweep."""
     sweep = Sweep(results)
     wanted: list[tuple[str | None, str, Callable[..., float], Callable[..., float] | None]] = [
               (None, "Sections by kind (a bar for each number of workers)", ratio("sections"), None),

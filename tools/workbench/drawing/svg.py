@@ -121,7 +121,6 @@ def gap_parts(x: float, y: int, width: int, gap: timeline.Gap) -> Iterator[str]:
 
 
 def document(width: float, height: int, style: str, parts: list[str], title: str = "") -> str:
-    """A picture's file."""
     title = f"<title>{html.escape(title)}</title>\n" if title else ""
     return (f'<svg xmlns="http://www.w3.org/2000/svg" width="{width:g}" height="{height:g}" '
             f'viewBox="0 0 {width:g} {height:g}" role="img">\n{title}<style>{style}</style>\n'

@@ -13,16 +13,13 @@ from . import svg
 
 LETTERS = {"start": "s", "on": ".", "taken": "t", "adopted": "a", "granted": "g"}
 STATES = {timeline.ASLEEP: "z", timeline.SHIPPED: "n", timeline.WAITING: "-", timeline.WANTS: "~", timeline.HOLDS: "="}
+DIGITS = "0123456789ABCDEFGHIJKLMNOPQRSTUV"  # of threads, workers and locks
 LEGEND = """s start  . without a lock  t taken  a adopted  g granted  o on with a lock held
 a capital letter: away from the thread's own worker
 z asleep with locks held  n shipped with locks held (nested)  = holds locks
 - waits for a lock  ~ wants a lock and finds it free; the lock's number stands first
 x behind a thread's last block; a worker's lane has the number of the thread (above 9: A, B ..)
 a lock's lane has the number of the worker that has it; - is a package that no worker has"""
-
-
-def digit(number: int) -> str:
-    return "0123456789ABCDEFGHIJKLMNOPQRSTUV"[number]
 
 
 class Canvas:
@@ -36,7 +33,7 @@ class Canvas:
         for gap in line.part(first, last)[1]:
             self.put_gap(gap)
         for stay in line.stays(first, last):
-            sign = "-" if stay.worker is None else digit(stay.worker)
+            sign = "-" if stay.worker is None else DIGITS[stay.worker]
             for stamp in range(stay.first, stay.last + 1):
                 self.put(self.locks + stay.lock, stamp, sign, by_worker(stay.worker))
         for mark in line.part(first, last)[0]:
@@ -47,7 +44,7 @@ class Canvas:
         lock = gap.held[-1] if gap.held else None
         for stamp in range(gap.first, gap.last + 1):
             if wants and stamp == gap.first:
-                self.put(gap.thread, stamp, digit(gap.wanted), by_lock(gap.wanted))
+                self.put(gap.thread, stamp, DIGITS[gap.wanted], by_lock(gap.wanted))
             else:
                 self.put(gap.thread, stamp, STATES[gap.state], by_lock(lock))
 
@@ -56,9 +53,9 @@ class Canvas:
         colour = by_lock(block.held[-1] if block.held else None)
         plain = "o" if block.kind == "on" and block.held else LETTERS[block.kind]
         self.put(block.thread, block.stamp, plain.upper() if mark.away else plain, colour)
-        self.put(self.workers + block.worker, block.stamp, digit(block.thread), colour)
+        self.put(self.workers + block.worker, block.stamp, DIGITS[block.thread], colour)
         for lock in block.held:
-            self.put(self.locks + lock, block.stamp, digit(block.worker), by_worker(block.worker))
+            self.put(self.locks + lock, block.stamp, DIGITS[block.worker], by_worker(block.worker))
         if block.ends_thread and block.stamp < self.last:
             self.put(block.thread, block.stamp + 1, "x", None)
 

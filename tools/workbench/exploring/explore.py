@@ -137,10 +137,10 @@ def seen_text(found: search.Search) -> str:
     """How much of a guest's interleavings was seen."""
     if found.whole:
         return several(found.states, "state")
-    if not found.walks:
-        return f"more than {several(found.states, 'state')}: not all seen"
-    return (f"more than {several(found.states, 'state')}: not all seen; about {found.left():.1e} are left, and "
-            f"{several(len(found.walks), 'walk')} to the end were made")
+    said = f"more than {several(found.states, 'state')}: not all seen"
+    if found.walks:
+        said += f"; about {found.left():.1e} are left, and {several(len(found.walks), 'walk')} to the end were made"
+    return said
 
 
 def show_all(guest: model.Guest, found: search.Search, asked: Namespace) -> None:

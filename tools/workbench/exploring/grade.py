@@ -78,29 +78,25 @@ def guests(folder: pathlib.Path) -> list[pathlib.Path]:
             or not any(path.with_suffix(suffix) in found for suffix in SOURCES)]
 
 
-def built(path: pathlib.Path, folder: pathlib.Path, march: str) -> tuple[pathlib.Path | None, str | None]:
-    """The file that a source is built as, or what the compiler says."""
+def built(path: pathlib.Path, folder: pathlib.Path, march: str) -> tuple[pathlib.Path, str | None]:
+    """The file that a source is built as, and what the compiler says where it is not."""
     for part in (path, *path.parent.glob("*.h")):
         shutil.copy(part, folder)
     done = subprocess.run(["make", "-s", "-f", places.KIT / "guest.mk", f"MARCH={march}", f"{path.stem}.elf"],
                           cwd=folder, stdout=subprocess.PIPE, stderr=subprocess.STDOUT, check=False)
     said = done.stdout.decode(errors="replace").splitlines()
     wrong = next((line for line in said if "error" in line), said[0] if said else "")
-    return (folder / f"{path.stem}.elf", None) if done.returncode == 0 else (None, wrong)
+    return folder / f"{path.stem}.elf", wrong if done.returncode else None
 
 
 def graded(name: str, path: pathlib.Path, asked: Namespace) -> Graded:
     with tempfile.TemporaryDirectory() as folder:
-        file = path
-        if path.suffix != ".elf":
-            made, wrong = built(path, pathlib.Path(folder), asked.march)
-            if made is None:
-                tool.note("grade", f"{name} is not built: {wrong}")
-                return Graded(name, "not built", ["-"] * len(asked.rules), {})
-            file = made
-        refused = guestfile.refusal(guestfile.read(file))
-        if refused:
-            return Graded(name, refused.line, ["-"] * len(asked.rules), {})
+        file, wrong = (path, None) if path.suffix == ".elf" else built(path, pathlib.Path(folder), asked.march)
+        refused = guestfile.refusal(guestfile.read(file)) if wrong is None else None
+        if wrong is not None:
+            tool.note("grade", f"{name} is not built: {wrong}")
+        if wrong is not None or refused:
+            return Graded(name, refused.line if refused else "not built", ["-"] * len(asked.rules), {})
         answers = [rule.answer(file, asked) for rule in asked.rules]
     return Graded(name, "accepted", [said for said, _ in answers],
                   {number: history for number, (_, history) in enumerate(answers, 1) if history})

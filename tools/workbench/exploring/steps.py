@@ -5,8 +5,9 @@ They do what model.py does, only faster; tools/tests compares the two block by b
 """
 from __future__ import annotations
 
-from functools import partial
-from typing import TYPE_CHECKING, Any, Callable, Dict, List, NamedTuple, TypeVar, Union
+import operator
+from functools import partial, reduce
+from typing import TYPE_CHECKING, Any, Callable, Collection, Dict, List, NamedTuple, TypeVar, Union
 
 from ..guest import model, rv32im
 from ..guest.model import Fault
@@ -88,58 +89,36 @@ class Live:
     def __init__(self, guest: model.Guest) -> None:
         self.guest = guest
         self.returns: set[int] = set()
-        self.reads: dict[int, tuple[int, int]] = {}
-        self.before: dict[int, list[int]] = {}  # by an address: from where code goes on there
+        flows: dict[int, tuple[int, int, Collection[int]]] = {}
         found = [entry for entry, _ in guest.entries]
-        returning: list[int] = []
         while found:
             pc = found.pop()
-            if pc not in self.reads:
-                found += self.look(pc, returning)
-        for pc in returning:
-            for place in self.returns:
-                self.before.setdefault(place, []).append(pc)
-        self.settle()
+            if pc not in flows:
+                flows[pc] = self.flow(pc)
+                found += [*flows[pc][2], *self.returns]
+        self.bits, before = {pc: read for pc, (read, _, _) in flows.items()}, {}  # type: dict[int, int], dict[int, int]
+        while self.bits != before:
+            before = dict(self.bits)
+            for pc, (read, written, after) in reversed(flows.items()):
+                behind = reduce(operator.or_, map(self.bits.__getitem__, after), 0)
+                self.bits[pc] = read | behind & ~written
 
-    def look(self, pc: int, returning: list[int]) -> list[int]:
-        """Notes what the instruction at an address reads and writes. Answers where code goes on."""
+    def flow(self, pc: int) -> tuple[int, int, Collection[int]]:
+        """What the instruction at an address reads and writes, as bits, and where code goes on."""
         word = self.guest.word(pc)
         what = None if word is None else rv32im.decode(word)
         if what is None or what.name == "ebreak":
-            self.reads[pc] = 1 << X10, 0
-            return []
-        read, written = rv32im.registers(what)
-        self.reads[pc] = sum(1 << register for register in {*read, X10}), 1 << written
-        after, behind = [pc + 4 & MASK], []
+            return 1 << X10, 0, ()
         if what.name in ("jal", "jalr") and what.to:
             self.returns.add(pc + 4 & MASK)
-            behind = after
+        if what.name == "jalr" and not is_return(what):
+            return MASK, 0, ()
+        registers, written = rv32im.registers(what)
+        read = sum(1 << register for register in {*registers, X10})
         if is_return(what):
-            returning.append(pc)
-            after = []
-        elif what.name == "jalr":
-            self.reads[pc] = MASK, 0
-            after = []
-        elif what.name == "jal":
-            after = [pc + what.value & MASK]
-        elif what.name[0] == "b":
-            after = after + [pc + what.value & MASK]
-        for place in after:
-            self.before.setdefault(place, []).append(pc)
-        return after + behind
-
-    def settle(self) -> None:
-        """Hands what is read on to where code comes from, until nothing changes."""
-        self.bits = {pc: read for pc, (read, _) in self.reads.items()}
-        changed = list(self.bits)
-        while changed:
-            pc = changed.pop()
-            for place in self.before.get(pc, ()):
-                read, written = self.reads[place]
-                bits = self.bits[place] | read | self.bits[pc] & ~written
-                if bits != self.bits[place]:
-                    self.bits[place] = bits
-                    changed.append(place)
+            return read, 1 << written, self.returns
+        to, after = pc + what.value & MASK, pc + 4 & MASK
+        return read, 1 << written, (to,) if what.name == "jal" else (after, to) if what.name[0] == "b" else (after,)
 
     def at(self, pc: int) -> int:
         return self.bits.get(pc, MASK)

@@ -39,7 +39,6 @@ def changed(draw: fuzz.Draw, file: bytes) -> bytes:
 
 
 def headers(file: bytes) -> list[bytes]:
-    """The program headers one by one."""
     return [file[place(number, 0):place(number + 1, 0)] for number in range(made.PROGRAM_HEADERS)]
 
 

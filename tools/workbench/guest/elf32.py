@@ -45,7 +45,6 @@ def headers_place(file: bytes) -> tuple[int, int, int]:
 
 
 def headers(file: bytes) -> Iterator[Header]:
-    """The program headers."""
     at, size, count = headers_place(file)
     for place in range(count):
         kind, offset, address, _, length, memory, flags, _ = struct.unpack_from("<8I", file, at + size * place)

@@ -18,7 +18,6 @@ CALLS = {name: number for number, name in limits.CALLS.items()}
 
 
 def call(number: int, value: int) -> list[int]:
-    """A guest call."""
     return [encode("addi", 10, 0, value), encode("addi", 17, 0, number), ECALL]
 
 

@@ -1,5 +1,6 @@
 """Lines of a guest's source by address: addr2line, which comes with the compiler, reads the debug data of a
 guest's file, where it has some."""
+import contextlib
 import functools
 import os
 import pathlib
@@ -84,15 +85,11 @@ def printable(text: str) -> str:
 
 def lines_of(path: pathlib.Path) -> List[str]:
     """The lines of a source, or none where it isn't a file of its size."""
-    try:
-        with open(os.open(path, os.O_RDONLY | os.O_NONBLOCK), "rb") as file:
-            if stat.S_ISREG(os.fstat(file.fileno()).st_mode):
-                return file.read(MOST_SOURCE).decode("utf-8", "replace").splitlines()
-    except (OSError, ValueError):
-        pass
+    with contextlib.suppress(OSError, ValueError), open(os.open(path, os.O_RDONLY | os.O_NONBLOCK), "rb") as file:
+        if stat.S_ISREG(os.fstat(file.fileno()).st_mode):
+            return file.read(MOST_SOURCE).decode("utf-8", "replace").splitlines()
     return []
 
 
 def load(path: str, guest_file: "guestfile.GuestFile") -> Sources:
-    """The lines of the guest's file at a path."""
     return Sources(path, guestfile.read(path), [where for where, flags, _ in guest_file.guest.ranges if flags & 1])

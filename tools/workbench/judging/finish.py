@@ -109,7 +109,6 @@ def possible(run: legal.Run) -> Iterator[str]:
 
 
 def follow(begin: Callable[..., Any], lines: list[Line]) -> tuple[legal.Run, list[report.Block]]:
-    """The run of some lines, and their blocks."""
     run, blocks = begin(), []
     for line in lines:
         try:

@@ -61,16 +61,14 @@ class Batch:
             return f"the section before ended with worker {last.worker}, and this one begins with {worker}"
         return f"worker {worker} released the lock and then ran block {self.next}: it would have adopted at once"
 
-    def begin(self, kind: str) -> None:
-        self.adopted = self.adopted + 1 if kind == "adopted" else 0
-
-    def release(self, block: Block) -> None:
-        self.last, self.next = block, None
-
-    def see(self, block: Block) -> None:
-        """Notes a block that is not the release itself."""
+    def note(self, block: Block, begins: bool, releases: bool) -> None:
+        """Keeps the rule in step with a block that has run."""
+        if begins:
+            self.adopted = self.adopted + 1 if block.kind == "adopted" else 0
         if self.last is not None and self.next is None and block.worker == self.last.worker:
             self.next = block.stamp
+        if releases:
+            self.last, self.next = block, None
 
 
 class Run:
@@ -136,12 +134,8 @@ class Run:
 
     def note(self, block: Block) -> None:
         """Keeps the batch rule of each lock in step with a block that has run."""
-        if block.begun is not None:
-            self.batches[block.begun].begin(block.kind)
-        for batch in self.batches:
-            batch.see(block)
-        for released in block.released:
-            self.batches[released].release(block)
+        for lock, batch in enumerate(self.batches):
+            batch.note(block, lock == block.begun, lock in block.released)
 
     def follow(self, block: Block, where: str = "") -> Block:
         """Runs the block that a line names, and compares the two."""

@@ -5,6 +5,7 @@ from."""
 from __future__ import annotations
 
 import copy
+import operator
 from collections import Counter
 from typing import Any, Iterator
 
@@ -76,25 +77,6 @@ def trace(run: legal.Run, file: guestfile.GuestFile, lines: Any, number: int) ->
             return
 
 
-class Context:
-    """A context between two blocks, as a worker would take it."""
-
-    def __init__(self, machine: model.Machine, thread: model.Thread, held: tuple[int, ...]) -> None:
-        self.registers = [rv32im.REGISTERS[number] for number, value in enumerate(thread.x) if value]
-        self.stack = limits.STACK.stop - thread.x[2] if thread.x[2] in limits.STACK else 0
-        contents = ((own, machine.guest.ranges[place][2]) for place, own in thread.own.items())
-        self.data = sum(one != other for own, content in contents if own != content for one,
-                        other in zip(own, content))
-        self.held = held
-        self.guarded = sum(len(machine.locks[lock].bytes) for lock in held)
-
-    def text(self) -> str:
-        return (f"pc, {report.several(len(self.registers), 'register')} not 0 ({' '.join(self.registers)}), "
-                f"{report.several(self.stack, 'byte')} of stack in use, {report.several(self.data, 'byte')} of its own "
-                "data changed" + (f"; in its package {report.locks_text(self.held)}, "
-                                  f"{report.several(self.guarded, 'byte')}" if self.held else ""))
-
-
 class Contexts:
     """Counts what moves of the contexts and the locks of a run, whose blocks so far are counted."""
 
@@ -102,15 +84,26 @@ class Contexts:
         self.machine, self.counted = machine, counted
         self.counts: Counter[str] = Counter()
 
+    def context(self, thread: model.Thread, held: tuple[int, ...]) -> str:
+        """Counts a context between two blocks, and says what it carries."""
+        registers = [rv32im.REGISTERS[number] for number, value in enumerate(thread.x) if value]
+        stack = limits.STACK.stop - thread.x[2] if thread.x[2] in limits.STACK else 0
+        contents = ((own, self.machine.guest.ranges[place][2]) for place, own in thread.own.items())
+        data = sum(sum(map(operator.ne, own, content)) for own, content in contents if own != content)
+        self.counts.update(contexts=1, registers=len(registers), stack=stack, data=data)
+        guarded = sum(len(self.machine.locks[lock].bytes) for lock in held)
+        return (f"pc, {report.several(len(registers), 'register')} not 0 ({' '.join(registers)}), "
+                f"{report.several(stack, 'byte')} of stack in use, {report.several(data, 'byte')} of its own data changed"
+                + (f"; in its package {report.locks_text(held)}, {report.several(guarded, 'byte')}" if held else ""))
+
     def before(self, block: report.Block) -> Iterator[str]:
         """What is said of a block that is about to run: of its context and of its lock, where they move
         or where the lock stays and the context comes to it."""
         last = self.counted.threads[block.thread].before
         came = last is not None and last.worker != block.worker
         if last is not None and came:
-            context = Context(self.machine, self.machine.threads[block.thread], last.kept)
-            self.counts.update(contexts=1, registers=len(context.registers), stack=context.stack, data=context.data)
-            yield f"context of thread {block.thread} from worker {last.worker} to worker {block.worker}: {context.text()}"
+            yield (f"context of thread {block.thread} from worker {last.worker} to worker {block.worker}: "
+                   + self.context(self.machine.threads[block.thread], last.kept))
         for lock in block.held:
             worker, size = self.counted.locks[lock].worker, len(self.machine.locks[lock].bytes)
             if worker is not None and worker != block.worker:

@@ -168,10 +168,9 @@ class Lines:
         """The line in front, or '' behind the last whole one."""
         line, self.next = self.next or "", next(self.lines, None)
         self.number += 1
-        if self.next is not None and not self.next.endswith("\n"):
-            self.cut, self.next = True, None
-        elif self.next is not None:
-            self.next = self.next[:-1]
+        if self.next is not None:
+            self.cut = not self.next.endswith("\n")
+            self.next = None if self.cut else self.next[:-1]
         return line
 
     def wrong(self, what: str) -> Wrong:
@@ -224,7 +223,6 @@ class Report:
         return threads, guards
 
     def blocks(self) -> Iterator[Block]:
-        """The blocks in their order."""
         stamp, sets = 0, {"-": ()}  # type: int, dict[str, tuple[int, ...]]
         while self.lines.next is not None and self.lines.next.startswith("block "):
             yield self.block(stamp, sets)

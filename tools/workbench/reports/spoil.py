@@ -24,7 +24,6 @@ def with_block(blocks: list[report.Block], place: int, **parts: Any) -> str:
 
 
 def other(draw: Random, value: Any, values: Any) -> Any:
-    """Another value than this one."""
     return draw.choice([one for one in values if one != value])
 
 
@@ -36,7 +35,7 @@ def near(draw: Random, value: int, least: int, most: int) -> int:
 
 def spelling(draw: Random, blocks: list[report.Block]) -> str:
     """A line that is none, or a last one without its end."""
-    lines = [f"{block.line(2)}\n" for block in blocks]
+    lines = text_of(blocks).splitlines(keepends=True)
     place = draw.randrange(len(lines))
     line, block = lines[place], blocks[place]
     lines[place] = draw.choice((

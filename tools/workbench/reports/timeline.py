@@ -156,5 +156,4 @@ def of(text: report.Report) -> Timeline:
 
 
 def read(path: str) -> Timeline:
-    """The timeline of a report in a file."""
     return of(report.Report(tool.read_lines(path)))

@@ -98,7 +98,6 @@ def counted(setting: Setting, shape: Any, blocks: Iterable[report.Block], second
 
 
 def by_program(file: bytes, setting: Setting) -> Result:
-    """A run of the program."""
     words = setting.words()
     began = time.perf_counter()
     status, text = program.run(words, file)
