@@ -25,30 +25,24 @@ from tools.workbench.reports import report
 from tools.workbench.running import delegation, program
 
 ROOT, GUESTS, COURSE = places.ROOT, places.GUESTS, places.COURSE
+DOCS, ANSWERS = ROOT / "docs", ROOT / "docs" / "answers"
+COMPILER = shutil.which("riscv64-unknown-elf-gcc")
 FACTS = json.loads((GUESTS / "facts.json").read_text())
 NAMES = sorted(FACTS)
 FOLDER = tempfile.TemporaryDirectory()
 TEMPORARY = pathlib.Path(FOLDER.name)
 
+
+def told(name: str) -> str:
+    """A history, or another text of the folder histories."""
+    return (ROOT / "tools/tests/histories" / f"{name}.txt").read_text()
+
+
 # lui x5,0x20; lock(0); x7 = load, plus 1, store; unlock(0); exit.
 ONE = (0x000202B7, 0x00000513, 0x00100893, 0x00000073, 0x0002A383, 0x00138393, 0x0072A023,
        0x00000513, 0x00200893, 0x00000073, 0x05D00893, 0x00000073)
-BY_HAND = """tclocks 2
-guest threads 2 guards 1
-run workers 2 fuel 100 batch 4
-block 0 thread 0 turns 3 held - kind start worker 0 pc 00100000 end wants 0
-block 1 thread 0 turns 7 held 0 kind taken worker 0 pc 0010000c end unlocked 0
-block 2 thread 1 turns 3 held - kind start worker 1 pc 00100000 end wants 0
-block 3 thread 1 turns 7 held 0 kind adopted worker 0 pc 0010000c end unlocked 0
-block 4 thread 0 turns 2 held - kind on worker 0 pc 00100028 end exit
-block 5 thread 1 turns 2 held - kind on worker 1 pc 00100028 end exit
-"""
-PROFILE = """tclocks profile 1
-lock 0 sections 2 taken 1 adopted 1 granted 0 longest 1 changes 0 home 1
-thread 0 blocks 3 turns 12 moves 0
-thread 1 blocks 3 turns 12 moves 2
-end
-"""
+BY_HAND = told("by-hand")
+PROFILE = told("by-hand-profile")
 # The same in the form of before, without the program counters.
 BY_HAND_V1 = re.sub(" pc [0-9a-f]{8}", "", BY_HAND).replace("tclocks 2", "tclocks 1")
 PCS = ("00100000", "0010000c", "00100000", "0010000c", "00100028", "00100028")
@@ -95,6 +89,7 @@ def built(code: Any, threads: tuple[int, ...], guards: int) -> bytes:
 
 def saved(name: str, content: bytes | str) -> str:
     path = TEMPORARY / name
+    path.parent.mkdir(parents=True, exist_ok=True)
     path.write_bytes(content if isinstance(content, bytes) else content.encode("ascii"))
     return str(path)
 

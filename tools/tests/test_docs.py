@@ -14,17 +14,15 @@ from tools.workbench import command
 from tools.workbench.checking import definitions
 from tools.workbench.guest import guestfile
 from tools.workbench.running import delegation
-from .common import COURSE, GUESTS, MADE_UP, ROOT, TEMPORARY, Case, elf, process, run, saved, script
+from .common import ANSWERS, COMPILER, COURSE, DOCS, GUESTS, MADE_UP, ROOT, TEMPORARY, Case, elf, process, run, saved, script
 
 
-DOCS = ROOT / "docs"
 PICTURES = DOCS / "pictures"
 PAGES = [*ROOT.glob("*.md"), *DOCS.rglob("*.md"), GUESTS / "README.md", ROOT / "bench" / "README.md"]
 BEGINS = re.compile(r"\(?(cat|for|make|done|echo) ?|\./(workbench|tclocks)[ -]|  |$")
 LEFT_OUT = re.compile(r"\./tclocks-build|\./workbench (check|fuzz|refuse|endure|facts|bench)\b|\brt |make .*(-B|CC=)|PATH/TO|\.\.(?!/)"
                       r"|\b(GUEST|REPORT|FOLDER|FILE|HISTORY|RULE|NAME|W F B|G K)\b|apt-get|git |sums$|same$|\[|tclocks (demo|gen|nodes)|(?<!/)my\.elf"
                       r"|^\./(workbench|tclocks) [a-z]+$|^\./workbench judge \S+$|1 F B")
-COMPILER = shutil.which("riscv64-unknown-elf-gcc")
 KEPT = {"counter": "counter", "philosophers": "philosophers", "first": "first", "first-alone": "first"}
 
 
@@ -165,7 +163,6 @@ class Commands(Case):
         self.assertGreater(count, 40)
 
 
-ANSWERS = ROOT / "docs" / "answers"
 BUILT = [COURSE / f"{name}.elf" for name in ("hot", "pair", "queue")] + [ANSWERS / f"{name}.elf" for name in ("pair", "queue")]
 
 

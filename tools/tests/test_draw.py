@@ -16,7 +16,8 @@ from typing import Any, Callable
 from tools.workbench.drawing import overview, page, svg
 from tools.workbench.guest import guestfile, made as maker, names, sources
 from tools.workbench.reports import report, timeline
-from .common import BY_HAND, BY_HAND_V1, FINISHED, GUEST, NAMES, ONE, ROOT, TEMPORARY, Case, elf, history, run, saved
+from .common import (BY_HAND, BY_HAND_V1, DOCS, FINISHED, GUEST, NAMES, ONE, ROOT, TEMPORARY, Case, elf, history, run,
+                     saved, told)
 
 
 PHILOSOPHERS = history("philosophers", 4, 8, 1)
@@ -181,16 +182,7 @@ class InABrowser(Case):
 
 
 # Threads 0 and 1 come to their LOCK, and worker 0 runs both sections: thread 1 waits in block 2.
-WAITS = """tclocks 2
-guest threads 2 guards 1
-run workers 2 fuel 100 batch 4
-block 0 thread 0 turns 3 held - kind start worker 0 pc 00100000 end wants 0
-block 1 thread 1 turns 3 held - kind start worker 1 pc 00100000 end wants 0
-block 2 thread 0 turns 7 held 0 kind taken worker 0 pc 0010000c end unlocked 0
-block 3 thread 1 turns 7 held 0 kind adopted worker 0 pc 0010000c end unlocked 0
-block 4 thread 1 turns 2 held - kind on worker 1 pc 00100028 end exit
-block 5 thread 0 turns 2 held - kind on worker 0 pc 00100028 end exit
-"""
+WAITS = told("waits")
 # The same, but with batch limit 0, and worker 1 gets the granted section after another block.
 GRANTED = WAITS.replace("batch 4", "batch 0").replace("kind adopted worker 0", "kind granted worker 1")
 
@@ -311,12 +303,11 @@ class Pictures(Case):
         self.assertEqual({*map(int, re.findall(r"<title>block (\d+):", said))}, set(range(100, 120)))
 
 
-KEPT = ROOT / "docs" / "pictures"
 ARGUMENTS = {"process_name": ("name", str), "thread_name": ("name", str),
              "process_sort_index": ("sort_index", int), "thread_sort_index": ("sort_index", int)}
 FLOW: dict[str, type] = {"cat": str, "ts": int, "id": int}
-FIELDS: dict[str, dict[str, type]] = {"M": {"args": dict}, "X": {"cat": str, "ts": int, "dur": int, "args": dict},
-                                      "s": FLOW, "f": FLOW}
+WORK: dict[str, type] = {"cat": str, "ts": int, "dur": int, "args": dict}
+FIELDS: dict[str, dict[str, type]] = {"M": {"args": dict}, "X": WORK, "s": FLOW, "f": FLOW}
 
 
 class Trace(Case):
@@ -367,7 +358,7 @@ class Trace(Case):
         return len(flows)
 
     def test_runs_of_the_program_and_of_the_model(self) -> None:
-        texts = [path.read_text() for path in sorted(KEPT.glob("*.txt"))]
+        texts = [path.read_text() for path in sorted((DOCS / "pictures").glob("*.txt"))]
         texts += [history(name, 4, 8, 1)[1] for name in ("bank", "sleepers", "broken")]
         for text in texts:
             complete, arrows = self.check(saved("traced.txt", text))

@@ -6,9 +6,9 @@ import contextlib
 import copy
 import csv
 import io
+import pathlib
 import random
 import re
-import shutil
 import signal
 import subprocess
 import time
@@ -20,7 +20,7 @@ from tools.workbench.exploring import explore, rules, search, steps
 from tools.workbench.guest import guestfile, made, model
 from tools.workbench.judging import rejecting
 from tools.workbench.running import delegation, program
-from .common import COURSE, EXIT, GUESTS, NAMES, ONE, ROOT, TEMPORARY, Case, built, call, elf, run, saved
+from .common import ANSWERS, COMPILER, COURSE, EXIT, GUESTS, NAMES, ONE, ROOT, TEMPORARY, Case, built, call, elf, run, saved
 
 
 # Small guests that are drawn from a seed, and a search of all their interleavings by model.py without any
@@ -50,8 +50,8 @@ def work(chance: random.Random, lock: int) -> str:
 
 
 def section(chance: random.Random, locks: int) -> str:
-    """One lock; two, one in the other; the last one only where the first one's word is odd; or all, where each is
-    released when the next one is held."""
+    """One lock; two, one in the other; the last one only where the first one's word is odd; or all, where each
+    is released when the next one is held."""
     kind = chance.choice(["one"] + ["two", "two", "odd"] * (locks > 1) + ["all", "all"] * (locks > 2))
     low, high = sorted(chance.sample(range(locks), 2)) if kind == "two" else (0, locks - 1)
     if kind == "one":
@@ -59,8 +59,9 @@ def section(chance: random.Random, locks: int) -> str:
         return f"LOCK {lock}; {work(chance, lock)} UNLOCK {lock};"
     if kind == "two":
         first, second = chance.choice(((low, high), (high, low)))
-        return (f"LOCK {low}; {work(chance, low) if chance.random() < 0.5 else ''} LOCK {high}; {work(chance, high)}"
-                f"{work(chance, low)} UNLOCK {first}; {work(chance, second)} UNLOCK {second};")
+        before = work(chance, low) if chance.random() < 0.5 else ""
+        return (f"LOCK {low}; {before} LOCK {high}; {work(chance, high)} {work(chance, low)} UNLOCK {first};"
+                f"{work(chance, second)} UNLOCK {second};")
     if kind == "odd":
         inner = f"LOCK {high}; {work(chance, high)} UNLOCK {high};"
         jump = 4 + 4 * len(made.code(inner))
@@ -73,7 +74,8 @@ def section(chance: random.Random, locks: int) -> str:
 def end(chance: random.Random, locks: int) -> str:
     """How a thread's code ends: mostly well, else with a lock held, by a fault or in a loop."""
     # EBREAK; a loop; fault 7 but with the last lock; fault 11 where a lock is held; a lock that is held.
-    ends = f"{work(chance, 0)} ebreak", "jal 0 0", f"lw 7 5 {4 * (locks - 1)};{ANSWER}", f"LOCK 0;{ANSWER}", ANSWER
+    ends = (f"{work(chance, 0)} ebreak", "jal 0 0", f"lw 7 5 {4 * (locks - 1)};{ANSWER}", f"LOCK 0;{ANSWER}",
+            ANSWER)
     kind = chance.randrange(9)
     held = f"LOCK {chance.randrange(locks)};" if kind < len(ends) and chance.random() < 0.6 else ""
     return held + (ends[kind] if kind < len(ends) else ANSWER)
@@ -403,7 +405,6 @@ class Rules(Case):
         self.assertEqual(sorted([well, broken, spent, fault], key=rules.End.order), [fault, spent, broken, well])
 
 
-ANSWERS = ROOT / "docs" / "answers"
 TORN = "lock 3 word 0 != lock 3 word 1"
 # Two threads that each count one up under the lock, but look at the word in a section of its own before.
 LOST = (0x000202B7, *call(1, 0), 0x0002A383, *call(2, 0), *call(1, 0), 0x00138393, 0x0072A023, *call(2, 0), *EXIT)
@@ -411,15 +412,9 @@ LOST = (0x000202B7, *call(1, 0), 0x0002A383, *call(2, 0), *call(1, 0), 0x0013839
 
 def folder(name: str, files: dict[str, Any]) -> str:
     """A folder of these files, by name: bytes, or the path of one to copy."""
-    place = TEMPORARY / name
     for inner, content in files.items():
-        path = place / inner
-        path.parent.mkdir(parents=True, exist_ok=True)
-        if isinstance(content, bytes):
-            path.write_bytes(content)
-        else:
-            shutil.copy(content, path)
-    return str(place)
+        saved(f"{name}/{inner}", content if isinstance(content, bytes) else pathlib.Path(content).read_bytes())
+    return str(TEMPORARY / name)
 
 
 class Grade(Case):
@@ -460,7 +455,7 @@ class Grade(Case):
         self.says("not known", run("grade", place, "--never", "lock 0 sections != 480", "--states", "20"))
 
     def test_sources(self) -> None:
-        if shutil.which("riscv64-unknown-elf-gcc") is None:
+        if COMPILER is None:
             self.skipTest("there is no compiler for RISC-V")
         place = folder("sources", {"a.c": GUESTS / "first.c", "a.elf": b"of no interest", "b.c": b"int main(void) { return 0 }",
                                    "c/c.S": GUESTS / "faults.S"})

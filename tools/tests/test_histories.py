@@ -14,7 +14,8 @@ from tools.workbench.guest import guestfile, model
 from tools.workbench.judging import rejecting
 from tools.workbench.reports import report, spoil
 from tools.workbench.running import delegation, program
-from .common import BY_HAND, BY_HAND_V1, EXIT, FACTS, FINISHED, GUEST, GUESTS, NAMES, ONE, PCS, PROFILE, ROOT, TEMPORARY, Case, built, call, elf, history, process, run, saved
+from .common import (BY_HAND, BY_HAND_V1, DOCS, EXIT, FACTS, FINISHED, GUEST, GUESTS, NAMES, ONE, PCS, PROFILE,
+                     TEMPORARY, Case, built, call, elf, history, process, run, saved, told)
 
 
 class ByHand(Case):
@@ -110,19 +111,7 @@ class OnPaper(Case):
 
     def test_nested_delegation(self) -> None:
         """Thread 2 is adopted with lock 0 by worker 1, shipped with it to lock 1, and adopted by worker 0."""
-        text = self.finished(LOCKED[1] + LOCKED[0] + BOTH, (0, 8, 16), 2, """
-            thread 0 turns 2 worker 0 end wants 1
-            thread 1 turns 2 worker 1 end wants 0
-            thread 0 kind taken worker 0 end unlocked 1
-            thread 1 kind taken worker 1 end unlocked 0
-            thread 2 turns 2 worker 2 end wants 0
-            thread 2 turns 3 held 0 kind adopted worker 1 end wants 1
-            thread 2 turns 4 held 0,1 kind adopted worker 0 end unlocked 1
-            thread 2 turns 3 held 0 kind on worker 0 end unlocked 0
-            thread 0 worker 0 end exit
-            thread 1 worker 1 end exit
-            thread 2 worker 2 end exit
-            """)
+        text = self.finished(LOCKED[1] + LOCKED[0] + BOTH, (0, 8, 16), 2, told("nested"))
         picture = self.well("draw", "-", "--text", given=text)
         self.assertIn("thread 2      sAAO  .", picture)
         self.assertIn("\n          0         10\n", picture)
@@ -133,27 +122,14 @@ class OnPaper(Case):
                   "released it in block 2 and runs", said)
 
     def test_sleep_inside_a_section(self) -> None:
-        text = self.finished(DOZE + ONE, (0, len(DOZE)), 1, """
-            thread 0 turns 3 worker 0 end wants 0
-            thread 0 turns 4 held 0 kind taken worker 0 end slept
-            thread 1 turns 3 worker 1 end wants 0
-            thread 0 turns 3 held 0 kind on worker 0 end unlocked 0
-            thread 1 kind adopted worker 0
-            thread 0 worker 0
-            thread 1 worker 1
-            """)
+        text = self.finished(DOZE + ONE, (0, len(DOZE)), 1, told("sleep"))
         self.assertIn("data 00020000 01000000", text)
         self.assertIn("asleep with lock 0 held", self.well("draw", "-", given=text))
 
     def test_unlock_out_of_order(self) -> None:
         code = call(1, 0) + call(1, 1) + call(2, 0) + call(2, 1) + EXIT
         done = run("simulate", saved("paper.elf", built(code, (0,), 2)), "1", "100", "4")
-        self.says("""block 0 thread 0 turns 2 held - kind start worker 0 pc 00100000 end wants 0
-block 1 thread 0 turns 3 held 0 kind taken worker 0 pc 00100008 end wants 1
-block 2 thread 0 turns 4 held 0,1 kind taken worker 0 pc 00100014 end unlocked 0
-block 3 thread 0 turns 3 held 1 kind on worker 0 pc 00100024 end unlocked 1
-block 4 thread 0 turns 2 held - kind on worker 0 pc 00100030 end exit
-thread 0 exit fuel 86""", done)
+        self.says(told("unlocks").strip(), done)
 
 
 class Cuts(Case):
@@ -224,7 +200,6 @@ class Delegation(Case):
             self.assertEqual(list(model.differences(FACTS[name], run_.machine)), [])
 
 
-DOCS = ROOT / "docs"
 EXIT_FILE = (GUESTS / "exit.elf").read_bytes()
 OF_EXIT = "block 0 thread 0 turns 2 held - kind start worker 0 pc 00010054 end exit\n"
 
@@ -258,11 +233,7 @@ class Answers(Case):
         """Thread 0 sleeps with lock 0, and thread 1 runs on from its LOCK."""
         file = built(DOZE + ONE, (0, len(DOZE)), 1)
         self.assertEqual(len(file), 304)
-        lines = """block 0 thread 0 turns 3 held - kind start worker 0 pc 00100000 end wants 0
-block 1 thread 0 turns 4 held 0 kind taken worker 0 pc 0010000c end slept
-block 2 thread 1 turns 3 held - kind start worker 1 pc 00100030 end wants 0
-block 3 thread 1 turns 7 held 0 kind taken worker 1 pc 0010003c end unlocked 0
-"""
+        lines = told("owner")
         self.assertEqual(answer("replay", file, (2, 100, 4), lines), (6, "rejected 4 3 Owner\n"))
 
     def test_a_text_error_comes_first(self) -> None:

@@ -16,7 +16,8 @@ from tools.workbench import limits
 from tools.workbench.guest import guestfile, model, sources
 from tools.workbench.judging import legal, tracing
 from tools.workbench.reports import report
-from .common import EXIT, FACTS, FINISHED, GUEST, GUESTS, NAMES, ONE, PROFILE, ROOT, TEMPORARY, Case, built, call, elf, history, process, run, saved
+from .common import (COMPILER, EXIT, FACTS, FINISHED, GUEST, GUESTS, NAMES, ONE, PROFILE, ROOT, TEMPORARY, Case, built,
+                     call, elf, history, process, run, saved, told)
 
 
 class Explanations(Case):
@@ -108,16 +109,7 @@ class Tables(Case):
         """Three threads come to their LOCK, and the sections stand 0, 2, 1: thread 1 waits three blocks,
         thread 2 one. The lock goes from worker 0 to 1 and back to 0; at home it would be so too, but that
         worker 2 ran thread 1 to its LOCK: 0, 1, 2."""
-        lines = """run workers 3 fuel 100 batch 4
-            thread 0 worker 0
-            thread 1 worker 2
-            thread 2 worker 1
-            thread 0 worker 0
-            thread 2 kind taken worker 1
-            thread 1 kind taken worker 0
-            thread 0 worker 0
-            thread 1 worker 2
-            thread 2 worker 1"""
+        lines = told("three")
         text = run("finish", saved("three.elf", built(ONE, (0, 0, 0), 1)), given=lines).stdout
         counts = json.loads(run("summary", "-", "--json", given=text).stdout)
         lock = counts["by_lock"][0]
@@ -226,9 +218,6 @@ class Explained(Case):
         text = history("philosophers", 4, 8, 1)[1]
         said = self.well("explain", elf("philosophers"), "-", "--contexts", given=text)
         self.assertRegex(said, r"context of thread \d .*, \d+ bytes of stack in use.*; in its package lock \d, 8 bytes")
-
-
-COMPILER = shutil.which("riscv64-unknown-elf-gcc")
 
 
 def with_debug_data() -> pathlib.Path:

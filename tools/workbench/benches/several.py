@@ -51,10 +51,10 @@ def taken(asked: Namespace, runs: Any, what: str) -> float:
 
 
 @contextlib.contextmanager
-def company(asked: Namespace, loop: Path | None, threads: int) -> Iterator[Any]:
+def company(asked: Namespace, threads: int) -> Iterator[Any]:
     """Keeps as many processors busy as these threads are fewer than the most workers, where that is asked for."""
     others = asked.workers[-1] - threads if asked.even else 0
-    beside = subprocess.Popen([str(loop), str(others), str(ENDLESS)]) if others else None
+    beside = subprocess.Popen([str(asked.loop), str(others), str(ENDLESS)]) if others else None
     try:
         if beside:
             time.sleep(BEGIN)
@@ -65,23 +65,14 @@ def company(asked: Namespace, loop: Path | None, threads: int) -> Iterator[Any]:
             beside.wait()
 
 
-def looped(asked: Namespace, loop: Path | None, threads: int, turns: int) -> float:
-    """The seconds of the loop by so many threads."""
-    with company(asked, loop, threads):
-        return ran((threads, turns), path=loop)[0].seconds
-
-
-def loops_of(asked: Namespace, loop: Path | None) -> Any:
-    """The seconds of the loop by the least and by the greatest number of workers."""
-    return [looped(asked, loop, threads, LOOP_TURNS) for threads in (asked.workers[0], asked.workers[-1])] if loop else None
-
-
-def shared_loop(asked: Namespace, seconds: float, loops: list[list[float]], loop: Path | None) -> float:
-    """The seconds of a loop as long as the guest, by the most threads that share it to those by the fewest."""
-    turns = int(LOOP_TURNS * seconds / asked.told(first for first, _ in loops))
-    runs = [[looped(asked, loop, threads, turns // threads) for threads in (asked.workers[0], asked.workers[-1])]
-            for _ in range(asked.runs)]
-    return of_loops(asked, runs)
+def looped(asked: Namespace, turns: int, is_shared: bool = False) -> Any:
+    """The seconds of a loop of so many turns by the fewest and by the most threads, which each have them or share
+    them; None where there is no compiler."""
+    found = []
+    for threads in (asked.workers[0], asked.workers[-1]) if asked.loop else ():
+        with company(asked, threads):
+            found.append(ran((threads, turns // threads if is_shared else turns), path=asked.loop)[0].seconds)
+    return found or None
 
 
 def of_loops(asked: Namespace, loops: list[list[float]]) -> float:
@@ -94,19 +85,19 @@ def is_quiet(asked: Namespace, loops: list[float]) -> bool:
     return asked.quiet is None or loops[1] <= asked.quiet * loops[0]
 
 
-def rounds(name: str, asked: Namespace, loop: Path | None) -> tuple[dict[int, list[tuple[Any, ...]]], list[list[float]], int]:
+def rounds(name: str, asked: Namespace) -> tuple[dict[int, list[tuple[Any, ...]]], list[list[float]], int]:
     """The runs of a guest in rounds that count, by workers; the loops before and behind them; how many rounds were made."""
     runs: dict[int, list[tuple[Any, ...]]] = {workers: [] for workers in asked.workers}
     file, loops, made = guests.GUESTS[name](), [], 0  # type: bytes, list[Any], int
     while len(runs[asked.workers[0]]) < asked.runs and made < MOST_ROUNDS * asked.runs:
-        made, before = made + 1, loops_of(asked, loop)
+        made, before = made + 1, looped(asked, LOOP_TURNS)
         if not is_quiet(asked, before):
             continue
         found = {}
         for workers in asked.workers:
-            with company(asked, loop, workers):
+            with company(asked, workers):
                 found[workers] = ran(("run", workers, asked.fuel, asked.batch), file, is_counted=not loops)
-        behind = loops_of(asked, loop)
+        behind = looped(asked, LOOP_TURNS)
         if is_quiet(asked, behind):
             loops += [before, behind]
             for workers in asked.workers:
@@ -116,16 +107,20 @@ def rounds(name: str, asked: Namespace, loop: Path | None) -> tuple[dict[int, li
     return runs, loops, made
 
 
-def measure(name: str, asked: Namespace, clock: Path | None, loop: Path | None, to: table.Table) -> tuple[float, float]:
+def measure(name: str, asked: Namespace, clock: Path | None, to: table.Table) -> tuple[float, float]:
     """Prints the line of a guest, and answers its two ratios."""
-    runs, loops, made = rounds(name, asked, loop)
+    runs, loops, made = rounds(name, asked)
     seconds, busy = ([taken(asked, runs[workers], what) for workers in asked.workers] for what in ("seconds", "busy"))
     ratios = seconds[-1] / seconds[0], busy[-1] / busy[0]
     _, blocks = runs[asked.workers[-1]][0]
     # What the most threads take more than one for so many additions to one word.
     shared, one = (taken(asked, [ran((threads, blocks), path=clock) for _ in range(asked.runs)], "busy")
                    for threads in (asked.workers[-1], 1)) if clock else (0, 0)
-    of_loop: Any = (of_loops(asked, loops), shared_loop(asked, seconds[0], loops, loop)) if loop else (None, None)
+    of_loop: Any = None, None
+    if asked.loop:
+        turns = int(LOOP_TURNS * seconds[0] / asked.told(first for first, _ in loops))  # as long as the guest
+        shared_loops = [looped(asked, turns, is_shared=True) for _ in range(asked.runs)]
+        of_loop = of_loops(asked, loops), of_loops(asked, shared_loops)
     to.row([name, *seconds, *busy, *ratios, shared - one if clock else None, *of_loop,
             f"{len(runs[asked.workers[-1]])} of {made}"],
            {workers: [took for took, _ in found] for workers, found in runs.items()})
@@ -160,10 +155,10 @@ def measure_all(asked: Namespace) -> int:
                ("Rounds", "")]
     to = table.Table("several", asked, columns)
     with tempfile.TemporaryDirectory() as folder:
-        clock, loop = (process.compiled(source, folder, "-pthread") if shutil.which("cc") else None
+        clock, asked.loop = (process.compiled(source, folder, "-pthread") if shutil.which("cc") else None
                        for source in ("clock.c", "loop.c"))
         names = asked.guests or USUAL
-        ratios = dict(to.fill("guests", names, lambda name: measure(name, asked, clock, loop, to)))
+        ratios = dict(to.fill("guests", names, lambda name: measure(name, asked, clock, to)))
     if ratios:
         seconds, busy = ({name: pair[which] for name, pair in ratios.items()} for which in (0, 1))
         told = "least" if asked.told is min else "median"

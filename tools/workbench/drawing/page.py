@@ -7,7 +7,7 @@ import json
 import pathlib
 import struct
 from itertools import chain
-from typing import Any, Sequence
+from typing import Any, Optional, Sequence, Tuple
 
 from .. import limits, tool
 from ..guest import guestfile, model, names, sources
@@ -19,6 +19,7 @@ PAGE = pathlib.Path(__file__).resolve().parent / "page.html"
 MOST = 50000  # blocks of a page
 SHOWN = 64  # words of a lock that are all shown
 MARK = '"application/json">DATA</script>'
+Guest = Optional[Tuple[guestfile.GuestFile, sources.Sources]]  # its file, and its lines
 
 
 class Player:
@@ -106,8 +107,7 @@ def nearest(marks: Any, threads: int) -> list[list[Any] | None]:
             for thread in range(threads)]
 
 
-def data(line: timeline.Timeline, called: names.Names, first: int, last: int, title: str,
-         guest: tuple[guestfile.GuestFile, sources.Sources] | None) -> dict[str, Any] | None:
+def data(line: timeline.Timeline, called: names.Names, first: int, last: int, title: str, guest: Guest) -> Any:
     """What the page's script reads."""
     player = played(guest, line, first, last) if guest else None
     texts, threads, rows = {"": 0}, line.text.threads, []  # texts: each with its number
@@ -127,8 +127,7 @@ def data(line: timeline.Timeline, called: names.Names, first: int, last: int, ti
             **(player.data() if player else {"registers": None, "words": None, "changes": []})}
 
 
-def made(line: timeline.Timeline, called: names.Names, first: int, last: int, title: str,
-         guest: tuple[guestfile.GuestFile, sources.Sources] | None) -> str:
+def made(line: timeline.Timeline, called: names.Names, first: int, last: int, title: str, guest: Guest) -> str:
     """The page of a window; `guest` is the guest's file and its lines, or None."""
     if last - first >= MOST:
         raise tool.Trouble(tool.WORDS, f"{last - first + 1} blocks are more than the {MOST} of a page; "

@@ -159,9 +159,9 @@ def decoded(guest: model.Guest, known: Live | None, pc: int) -> Step:
     if name == "addi":
         return partial(added, to, a, value, after)
     if name in model.IMMEDIATES:
-        return partial(with_immediate, model.OPERATIONS[model.IMMEDIATES[name]], to, a, value, after)
+        return partial(operated, model.OPERATIONS[model.IMMEDIATES[name]], to, a, None, value, after)
     if name in model.OPERATIONS:
-        return partial(with_registers, model.OPERATIONS[name], to, a, b, after)
+        return partial(operated, model.OPERATIONS[name], to, a, b, 0, after)
     if name == "ecall":
         return CALL
     return partial(raising, 8) if name == "ebreak" else partial(constant, 0, 0, after)
@@ -229,13 +229,9 @@ def sum_of(to: int, a: int, b: int, sign: int, after: int, x: Registers, run: Ru
     return after
 
 
-def with_immediate(of: Operation, to: int, a: int, value: int, after: int, x: Registers, _: Running) -> int:
-    x[to] = of(number(x, a), value) & MASK
-    return after
-
-
-def with_registers(of: Operation, to: int, a: int, b: int, after: int, x: Registers, _: Running) -> int:
-    x[to] = of(number(x, a), number(x, b)) & MASK
+def operated(of: Operation, to: int, a: int, b: int | None, value: int, after: int, x: Registers, _: Running) -> int:
+    """x[to] = of(x[a], x[b]), or of a value in the place of x[b]."""
+    x[to] = of(number(x, a), value if b is None else number(x, b)) & MASK
     return after
 
 
