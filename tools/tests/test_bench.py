@@ -285,7 +285,7 @@ class Orders(Case):
     def test_the_youngest_comes_first_within_the_bound(self) -> None:
         """Threads 1, 2 and 3 wait in this order, and whoever is served first and second comes again."""
         worker = delegation.Worker(0)
-        for bound, wanted in ((0, [1, 2, 3, 1, 2]), (1, [3, 1, 2, 1, 3]), (2, [3, 3, 1, 2, 3]), (9, [3, 3, 3, 2, 1])):
+        for bound, wanted in (0, [1, 2, 3, 1, 2]), (1, [3, 1, 2, 1, 3]), (2, [3, 3, 1, 2, 3]), (9, [3, 3, 3, 2, 1]):
             hall = orders.YoungestHall(guestfile.load(elf("counter")).guest, 1, 100, 8, 0, bound=bound)
             hall.line[0] = [0, 1, 2, 3]
             hall.linked = {(thread, 0) for thread in (1, 2, 3)}
@@ -301,7 +301,7 @@ class Orders(Case):
 
     def test_where_nobody_may_be_passed_all_are_alike(self) -> None:
         words = ("--workers", "4", "--batch", "8", "--runs", "2")
-        rows = table(run("orders", elf("counter"), *words, "--bound", "0", "--plot", str(TEMPORARY / "orders.svg")))
+        rows = table(run("orders", elf("counter"), *words, "--bound", "0", "--plot", TEMPORARY / "orders.svg"))
         swept = table(run("sweep", elf("counter"), *words, "--model"))
         self.assertEqual([(row.pop("order"), row["seed"]) for row in rows],
                          [(order, seed) for order in ("entry", "nodes", "youngest") for seed in "12"])

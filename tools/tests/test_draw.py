@@ -16,8 +16,8 @@ from typing import Any, Callable
 from tools.workbench.drawing import overview, page, svg
 from tools.workbench.guest import guestfile, made as maker, names, sources
 from tools.workbench.reports import report, timeline
-from .common import (BY_HAND, BY_HAND_V1, DOCS, FINISHED, GUEST, NAMES, ONE, ROOT, TEMPORARY, Case, elf, history, run,
-                     saved, told)
+from .common import (BY_HAND, BY_HAND_V1, DOCS, FINISHED, GUEST, NAMES, ONE, ROOT, TEMPORARY, Case, elf, history,
+                     run, saved, told)
 
 
 PHILOSOPHERS = history("philosophers", 4, 8, 1)

@@ -6,7 +6,6 @@ import contextlib
 import copy
 import csv
 import io
-import pathlib
 import random
 import re
 import signal
@@ -20,7 +19,8 @@ from tools.workbench.exploring import explore, rules, search, steps
 from tools.workbench.guest import guestfile, made, model
 from tools.workbench.judging import rejecting
 from tools.workbench.running import delegation, program
-from .common import ANSWERS, COMPILER, COURSE, EXIT, GUESTS, NAMES, ONE, ROOT, TEMPORARY, Case, built, call, elf, run, saved
+from .common import (ANSWERS, COMPILER, COURSE, EXIT, GUESTS, NAMES, ONE, ROOT, TEMPORARY, Case, built, call, elf,
+                     run, saved)
 
 
 # Small guests that are drawn from a seed, and a search of all their interleavings by model.py without any
@@ -50,7 +50,7 @@ def work(chance: random.Random, lock: int) -> str:
 
 
 def section(chance: random.Random, locks: int) -> str:
-    """One lock; two, one in the other; the last one only where the first one's word is odd; or all, where each
+    """One lock; two, one in the other; the last one only where the first one's word is odd; or all: each
     is released when the next one is held."""
     kind = chance.choice(["one"] + ["two", "two", "odd"] * (locks > 1) + ["all", "all"] * (locks > 2))
     low, high = sorted(chance.sample(range(locks), 2)) if kind == "two" else (0, locks - 1)
@@ -170,8 +170,8 @@ class EveryInterleaving(Case):
         """Which registers are read again is not known then, so all are kept."""
         for link in steps.LINKS:
             code = made.code(
-                f"{BEGIN} LOCK 0; lw 7 5 0; addi 6 7 0; {one_of(random.Random(1), 0, *TWICE)} UNLOCK 0; auipc {link} 0;"
-                f"addi {link} {link} 16; jalr 0 {link} 0; ebreak; LOCK 0; UNLOCK 0; addi 10 6 0; EXIT")
+                f"{BEGIN} LOCK 0; lw 7 5 0; addi 6 7 0; {one_of(random.Random(1), 0, *TWICE)} UNLOCK 0;"
+                f"auipc {link} 0; addi {link} {link} 16; jalr 0 {link} 0; ebreak; LOCK 0; UNLOCK 0; addi 10 6 0; EXIT")
             found, ends = self.same(built(code, (0, 0), 1), 100)
             self.assertIsNone(found.shares.alone.sections.live)  # type: ignore[union-attr]
             self.assertEqual({tuple(x10 for _, x10 in end.threads) for end in ends}, {(0, 1), (1, 0)})
@@ -191,8 +191,8 @@ class EveryInterleaving(Case):
             chance = random.Random(seed)
             ways = "add 7 7 9", "add 9 7 9; addi 7 9 1", "sub 7 7 9", "add 7 7 7; sub 7 7 9"
             one, other = (made.code(
-                f"{BEGIN} LOCK 0; LOCK 1; lw 7 5 0; lw 9 5 4; {way}; sw 7 5 0; {one_of(chance, 1, *TWICE)} UNLOCK 1;"
-                f"UNLOCK 0; LOCK 1; {one_of(chance, 1, *ADD)} UNLOCK 1; EXIT")
+                f"{BEGIN} LOCK 0; LOCK 1; lw 7 5 0; lw 9 5 4; {way}; sw 7 5 0; {one_of(chance, 1, *TWICE)}"
+                f"UNLOCK 1; UNLOCK 0; LOCK 1; {one_of(chance, 1, *ADD)} UNLOCK 1; EXIT")
                 for way in (ways[seed], chance.choice(ways)))
             self.same(of_two(one, other, [3, 5]), 100)
 
@@ -413,7 +413,7 @@ LOST = (0x000202B7, *call(1, 0), 0x0002A383, *call(2, 0), *call(1, 0), 0x0013839
 def folder(name: str, files: dict[str, Any]) -> str:
     """A folder of these files, by name: bytes, or the path of one to copy."""
     for inner, content in files.items():
-        saved(f"{name}/{inner}", content if isinstance(content, bytes) else pathlib.Path(content).read_bytes())
+        saved(f"{name}/{inner}", content if isinstance(content, bytes) else open(content, "rb").read())
     return str(TEMPORARY / name)
 
 

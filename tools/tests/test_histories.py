@@ -14,8 +14,8 @@ from tools.workbench.guest import guestfile, model
 from tools.workbench.judging import rejecting
 from tools.workbench.reports import report, spoil
 from tools.workbench.running import delegation, program
-from .common import (BY_HAND, BY_HAND_V1, DOCS, EXIT, FACTS, FINISHED, GUEST, GUESTS, NAMES, ONE, PCS, PROFILE,
-                     TEMPORARY, Case, built, call, elf, history, process, run, saved, told)
+from .common import (BY_HAND, BY_HAND_V1, DOCS, EXIT, FACTS, FINISHED, GUEST, GUESTS, NAMES, ONE, PCS,
+                     PROFILE, TEMPORARY, Case, built, call, elf, history, process, run, saved, told)
 
 
 class ByHand(Case):

@@ -281,7 +281,8 @@ class Checks(Case):
     def test_a_contended_guest_must_show_delegation(self) -> None:
         check, text = script("check"), history("counter", 1, 8, None)[1]
         check.check_run = lambda file, known, words: text
-        with mock.patch.object(rejecting, "give_back", lambda *_: ()), contextlib.redirect_stdout(io.StringIO()) as said:
+        said = io.StringIO()
+        with mock.patch.object(rejecting, "give_back", lambda *_: ()), contextlib.redirect_stdout(said):
             passed = [check.check(name, FACTS[name])[0] for name in ("counter", "first")]
         self.assertEqual(passed, [False, True])
         self.assertEqual(said.getvalue(), "counter: FAILED: one worker alone ran in each of 125 runs\n"

@@ -16,8 +16,8 @@ from tools.workbench import limits
 from tools.workbench.guest import guestfile, model, sources
 from tools.workbench.judging import legal, tracing
 from tools.workbench.reports import report
-from .common import (COMPILER, EXIT, FACTS, FINISHED, GUEST, GUESTS, NAMES, ONE, PROFILE, ROOT, TEMPORARY, Case, built,
-                     call, elf, history, process, run, saved, told)
+from .common import (COMPILER, EXIT, FACTS, FINISHED, GUEST, GUESTS, NAMES, ONE, PROFILE, ROOT, TEMPORARY,
+                     Case, built, call, elf, history, process, run, saved, told)
 
 
 class Explanations(Case):

@@ -66,8 +66,8 @@ def company(asked: Namespace, threads: int) -> Iterator[Any]:
 
 
 def looped(asked: Namespace, turns: int, is_shared: bool = False) -> Any:
-    """The seconds of a loop of so many turns by the fewest and by the most threads, which each have them or share
-    them; None where there is no compiler."""
+    """The seconds of a loop of so many turns by the fewest and by the most threads, which each have them or
+    share them; None where there is no compiler."""
     found = []
     for threads in (asked.workers[0], asked.workers[-1]) if asked.loop else ():
         with company(asked, threads):

@@ -76,10 +76,10 @@ class Place:
 
     def start(self, file: bytes, words: tuple[str, ...], **more: Any) -> subprocess.Popen[bytes]:
         self.guest.write_bytes(file)
-        around = {"HOME": str(self.empty), "TMPDIR": str(self.empty)}
+        env = {"HOME": str(self.empty), "TMPDIR": str(self.empty)}
         streams: dict[str, Any] = {"stdout": subprocess.PIPE, "stderr": subprocess.PIPE, **more}
         with open(self.guest, "rb") as given:
-            return subprocess.Popen([self.program, *words], cwd=self.empty, stdin=given, env=around, **streams)
+            return subprocess.Popen([self.program, *words], stdin=given, cwd=self.empty, env=env, **streams)
 
     def run(self, file: bytes, words: tuple[str, ...], **more: Any) -> tuple[int, bytes]:
         """Runs it to its end: its status, and what it wrote."""

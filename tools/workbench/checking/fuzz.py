@@ -105,9 +105,9 @@ class Draw(random.Random):
         return made.elf(made.note(entries, guards, version), words, data, len(data) + self.randrange(9))
 
 
-def judge(file: bytes, options: tuple[int, ...], refused: str | None, draw: random.Random, kept: str) -> str | None:
-    """Runs a file, and gives the history of its report back, and a changed one: why that is rejected. Wrong where the
-    program answers otherwise than it must; None too where the file is refused."""
+def judge(file: bytes, options: tuple[int, ...], refused: str | None, draw: Draw, kept: str) -> str | None:
+    """Runs a file, and gives the history of its report back, and a changed one: why that is rejected. Wrong where
+    the program answers otherwise than it must; None too where the file is refused."""
     if refused is None:
         text, _ = check.run(file, ("run", *options))
         return next(rejecting.give_back(file, options, text, draw, [draw.choice(spoil.FORMS)], kept))
@@ -123,7 +123,7 @@ def main(words: list[str]) -> int | None:
     parser.number("seed", (0, 2**32), usual=1, metavar="SEED", nargs="?")
     asked = parser.parse_args(words)
     program.need()
-    draw, changes, failed = Draw(asked.seed), random.Random(asked.seed), 0
+    draw, changes, failed = Draw(asked.seed), Draw(asked.seed), 0
     seen: collections.Counter[str] = collections.Counter()
     rejected: collections.Counter[Any] = collections.Counter()
     with progress.Progress("fuzz", "guests", asked.count) as shown:

@@ -107,7 +107,7 @@ def nearest(marks: Any, threads: int) -> list[list[Any] | None]:
             for thread in range(threads)]
 
 
-def data(line: timeline.Timeline, called: names.Names, first: int, last: int, title: str, guest: Guest) -> Any:
+def data(line: timeline.Timeline, names: names.Names, first: int, last: int, title: str, guest: Guest) -> Any:
     """What the page's script reads."""
     player = played(guest, line, first, last) if guest else None
     texts, threads, rows = {"": 0}, line.text.threads, []  # texts: each with its number
@@ -118,7 +118,7 @@ def data(line: timeline.Timeline, called: names.Names, first: int, last: int, ti
         start = player.starts[block.stamp] if player else f"pc {block.pc:08x}" if block.pc is not None else ""
         rows.append(row(mark, texts.setdefault(start, len(texts)), player.notes.get(block.stamp, "") if player else ""))
     return {"title": title, "what": line.text.title(), "first": first, "workers": line.text.workers,
-            "threads": called.threads, "locks": [{"name": name} for name in called.locks],
+            "threads": names.threads, "locks": [{"name": name} for name in names.locks],
             "lockColours": [textlanes.by_lock(lock) for lock in range(line.text.guards)],
             "workerColours": [textlanes.by_worker(worker) for worker in range(len(svg.WORKERS))],
             "blocks": rows, "before": nearest(line.marks[:first][::-1], threads),
@@ -127,12 +127,12 @@ def data(line: timeline.Timeline, called: names.Names, first: int, last: int, ti
             **(player.data() if player else {"registers": None, "words": None, "changes": []})}
 
 
-def made(line: timeline.Timeline, called: names.Names, first: int, last: int, title: str, guest: Guest) -> str:
+def made(line: timeline.Timeline, names: names.Names, first: int, last: int, title: str, guest: Guest) -> str:
     """The page of a window; `guest` is the guest's file and its lines, or None."""
     if last - first >= MOST:
         raise tool.Trouble(tool.WORDS, f"{last - first + 1} blocks are more than the {MOST} of a page; "
                            "--from and --to give a part")
-    text = json.dumps(data(line, called, first, last, title, guest), separators=(",", ":"))
+    text = json.dumps(data(line, names, first, last, title, guest), separators=(",", ":"))
     before, after = PAGE.read_text(encoding="utf-8").split(MARK)
     # No text of the run can end the element that it stands in.
     return before + MARK.replace("DATA", text.replace("<", "\\u003c")) + after

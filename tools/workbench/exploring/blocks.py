@@ -17,14 +17,14 @@ EXIT, SPENT, FAULT = 1, 2, 16  # how a thread ended; fault F is FAULT + F
 ENDS = {EXIT: "exit", SPENT: "spent"}
 
 
-# The fault of an access (4 for one that lies in nothing) or None; what it lies in, which is a lock's number, the
-# content of a range that can't be written, or None for memory of the thread's own; and the place in it.
+# The fault of an access (4 for one that lies in nothing) or None; what it lies in, which is a lock's number,
+# the content of a range that can't be written, or None for memory of the thread's own; and the place in it.
 Place = Tuple[Optional[int], Union[int, bytes, None], int]
 
 
 class Guest:
-    """A guest for the threads that run it: the steps of its code by their addresses, what an access with an address
-    and a width is, and the first content of the pages of a thread's own memory by their numbers."""
+    """A guest for the threads that run it: the steps of its code by their addresses, what an access with an
+    address and a width is, and the first content of the pages of a thread's own memory by their numbers."""
 
     def __init__(self, guest: model.Guest, known: steps.Live | None = None) -> None:
         self.guest, self.locks = guest, len(guest.guards)

@@ -139,7 +139,8 @@ def seen_text(found: search.Search) -> str:
         return several(found.states, "state")
     said = f"more than {several(found.states, 'state')}: not all seen"
     if found.walks:
-        said += f"; about {found.left():.1e} are left, and {several(len(found.walks), 'walk')} to the end were made"
+        walks = several(len(found.walks), "walk")
+        said += f"; about {found.left():.1e} are left, and {walks} to the end were made"
     return said
 
 

@@ -91,7 +91,8 @@ def built(path: pathlib.Path, folder: pathlib.Path, march: str) -> tuple[pathlib
 
 def graded(name: str, path: pathlib.Path, asked: Namespace) -> Graded:
     with tempfile.TemporaryDirectory() as folder:
-        file, wrong = (path, None) if path.suffix == ".elf" else built(path, pathlib.Path(folder), asked.march)
+        is_built = path.suffix == ".elf"
+        file, wrong = (path, None) if is_built else built(path, pathlib.Path(folder), asked.march)
         refused = guestfile.refusal(guestfile.read(file)) if wrong is None else None
         if wrong is not None:
             tool.note("grade", f"{name} is not built: {wrong}")

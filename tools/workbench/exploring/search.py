@@ -175,7 +175,8 @@ class Share:
             thread = chance.choices(able, [weights[number] for number in able])[0]
             found = self.sections.result(state, thread)
             if found:
-                state, blocks = self.sections.behind(state, sections.NAME * thread, found), blocks + found.blocks
+                state = self.sections.behind(state, sections.NAME * thread, found)
+                blocks += found.blocks
                 threads.append(thread)
                 rounds[thread] += 1
             elif self.sections.contents[state[sections.NAME * thread:][:sections.NAME]][0] != sections.RUNNING:

@@ -81,7 +81,7 @@ class Node:
     __slots__ = ("known", "places", "after")
 
     def __init__(self, above: Node | None, places: list[tuple[int, int, int, int]]) -> None:
-        self.known: frozenset[tuple[int, int, int, int]] = frozenset(places).union(above.known if above else ())
+        self.known: frozenset[tuple[int, ...]] = frozenset(places).union(above.known if above else ())
         # As few spans: start and stop of the lock's name, and of the bytes.
         self.places: list[tuple[int, int, int, int]] = []
         for start, stop, low, high in sorted(places):

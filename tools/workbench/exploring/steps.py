@@ -96,7 +96,8 @@ class Live:
             if pc not in flows:
                 flows[pc] = self.flow(pc)
                 found += [*flows[pc][2], *self.returns]
-        self.bits, before = {pc: read for pc, (read, _, _) in flows.items()}, {}  # type: dict[int, int], dict[int, int]
+        self.bits = {pc: read for pc, (read, _, _) in flows.items()}
+        before: dict[int, int] = {}
         while self.bits != before:
             before = dict(self.bits)
             for pc, (read, written, after) in reversed(flows.items()):
@@ -118,7 +119,7 @@ class Live:
         if is_return(what):
             return read, 1 << written, self.returns
         to, after = pc + what.value & MASK, pc + 4 & MASK
-        return read, 1 << written, (to,) if what.name == "jal" else (after, to) if what.name[0] == "b" else (after,)
+        return read, 1 << written, {"jal": (to,)}.get(what.name, (after, to) if what.name[0] == "b" else (after,))
 
     def at(self, pc: int) -> int:
         return self.bits.get(pc, MASK)
@@ -229,7 +230,7 @@ def sum_of(to: int, a: int, b: int, sign: int, after: int, x: Registers, run: Ru
     return after
 
 
-def operated(of: Operation, to: int, a: int, b: int | None, value: int, after: int, x: Registers, _: Running) -> int:
+def operated(of: Operation, to: int, a: int, b: int | None, value: int, after: int, x: Registers, _: Any) -> int:
     """x[to] = of(x[a], x[b]), or of a value in the place of x[b]."""
     x[to] = of(number(x, a), value if b is None else number(x, b)) & MASK
     return after

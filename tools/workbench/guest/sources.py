@@ -85,9 +85,10 @@ def printable(text: str) -> str:
 
 def lines_of(path: pathlib.Path) -> List[str]:
     """The lines of a source, or none where it isn't a file of its size."""
-    with contextlib.suppress(OSError, ValueError), open(os.open(path, os.O_RDONLY | os.O_NONBLOCK), "rb") as file:
-        if stat.S_ISREG(os.fstat(file.fileno()).st_mode):
-            return file.read(MOST_SOURCE).decode("utf-8", "replace").splitlines()
+    with contextlib.suppress(OSError, ValueError):
+        with open(os.open(path, os.O_RDONLY | os.O_NONBLOCK), "rb") as file:
+            if stat.S_ISREG(os.fstat(file.fileno()).st_mode):
+                return file.read(MOST_SOURCE).decode("utf-8", "replace").splitlines()
     return []
 
 

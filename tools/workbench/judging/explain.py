@@ -8,6 +8,7 @@ all of them choose. After a usage line, --words says what is wrong with the word
 """
 from __future__ import annotations
 
+from argparse import Namespace
 import argparse
 import copy
 import re
@@ -46,7 +47,7 @@ def check_number(name: str, number: int | None, count: int) -> None:
 class Explainer:
     """Follows the blocks by the model, which knows where each begins, and says it of the chosen ones."""
 
-    def __init__(self, file: guestfile.GuestFile, text: report.Report, lines: Any, asked: argparse.Namespace) -> None:
+    def __init__(self, file: guestfile.GuestFile, text: report.Report, lines: Any, asked: Namespace) -> None:
         self.file, self.text, self.lines, self.asked = file, text, lines, asked
         self.run, self.counts = legal.begin(file.guest, text), counts.Counts(text)
         self.contexts = tracing.Contexts(self.run.machine, self.counts) if asked.contexts else None
@@ -88,7 +89,7 @@ class Explainer:
             yield f"  thread {block.thread}: {reasons.ending(self.file, thread, block.held)}{held}"
 
 
-def explain_report(file: guestfile.GuestFile, text: report.Report, asked: argparse.Namespace) -> None:
+def explain_report(file: guestfile.GuestFile, text: report.Report, asked: Namespace) -> None:
     lines = sources.load(asked.guest, file)
     for name, number, count in ("thread", asked.thread, text.threads), ("lock", asked.lock, text.guards):
         check_number(name, number, count)

@@ -15,8 +15,9 @@ from ..guest import guestfile
 from ..reports import report
 from . import legal
 
-PARTS = re.compile(r"(?P<name>thread|turns|worker) (?P<number>\d{1,9})\b|held (?P<held>-|[\d,]+)|kind (?P<kind>\w+)"
-                   r"|pc (?P<pc>[0-9a-f]{8})\b|end (?P<end>wants \d+|unlocked \d+|slept|cut|exit|fault \d+|spent)")
+PARTS = re.compile("|".join((
+    r"(?P<name>thread|turns|worker) (?P<number>\d{1,9})\b", r"held (?P<held>-|[\d,]+)", r"kind (?P<kind>\w+)",
+    r"pc (?P<pc>[0-9a-f]{8})\b", r"end (?P<end>wants \d+|unlocked \d+|slept|cut|exit|fault \d+|spent)")))
 REST = re.compile(r"(thread \d+ (exit|fault|spent)|x\d+ |lock |data |end$)")
 
 

@@ -136,8 +136,8 @@ def history_of(text: str) -> bytes:
 
 
 def ask_both(file: bytes, numbers: tuple[int, ...], history: bytes, kept: str) -> Given:
-    """Gives a file and a history to both forms. Answers what the model has of it; Wrong where the program answers
-    otherwise: the history is kept then, under a name."""
+    """Gives a file and a history to both forms. Answers what the model has of it; Wrong where the program
+    answers otherwise: the history is kept then, under a name."""
     given = Given(len(file), numbers, file + history)
     for form in "replay", "profile":
         answers = program.run((form, len(file), *numbers), file + history), given.answer(form)
@@ -153,8 +153,8 @@ def ask_both(file: bytes, numbers: tuple[int, ...], history: bytes, kept: str) -
 
 def give_back(file: bytes, numbers: tuple[int, ...], text: str, draw: Random, forms: Sequence[Form],
               kept: str) -> Iterator[str | None]:
-    """Gives the history of a report back, and then changed ones of these forms. Answers of each of those for which
-    reason it is rejected, or None."""
+    """Gives the history of a report back, and then changed ones of these forms. Answers of each of those for
+    which reason it is rejected, or None."""
     blocks = ask_both(file, numbers, history_of(text), kept).blocks
     for form in forms:
         yield ask_both(file, numbers, form(draw, blocks).encode("ascii"), kept).reason

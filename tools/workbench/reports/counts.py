@@ -173,7 +173,7 @@ class Counts:
         ends = getattr(self.text, "thread_ends", ())
         end = ends[number] if number < len(ends) else None
         return {"thread": number, **{name: getattr(thread, name) for name in OF_THREAD},
-                "fuel_left": end.fuel if end else None, "x10": end.x[10] if end and len(end.x) == 32 else None}
+                "fuel_left": end and end.fuel, "x10": end.x[10] if end and len(end.x) == 32 else None}
 
 
 def counted(text: Any, blocks: Iterable[report.Block]) -> Counts:
