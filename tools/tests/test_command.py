@@ -147,13 +147,11 @@ class Unproved(Folder):
 
     def test_a_signal_ends_it_and_leaves_nothing(self) -> None:
         for how in (signal.SIGINT, signal.SIGTERM, signal.SIGHUP):
-            started = self.begin("run", "8", "1", "0")
-            started.stdin.close()  # type: ignore[union-attr]
-            self.wait_for("count")
-            started.send_signal(how)
-            self.assertEqual(started.wait(timeout=20), -how)
-            started.stdout.close()  # type: ignore[union-attr]
-            started.stderr.close()  # type: ignore[union-attr]
+            with self.begin("run", "8", "1", "0") as started:
+                started.stdin.close()  # type: ignore[union-attr]
+                self.wait_for("count")
+                started.send_signal(how)
+                self.assertEqual(started.wait(timeout=20), -how)
             self.assertEqual((self.left_over(), self.running("bin/rt")), ([], ""))
             (self.root / "count").unlink()
 

@@ -138,11 +138,11 @@ class WrongUses(Case):
             self.full(tool, *words)
             self.one_line(process("sh", "-c", '"$0" "$@" >&-', ROOT / "workbench", tool, *words), 4)
         for tool in ("draw", "explain", "finish", "simulate"):
-            piped = subprocess.Popen([ROOT / "workbench", tool, *uses[tool]], stdout=subprocess.PIPE, stderr=subprocess.PIPE)
-            piped.stdout.close()  # type: ignore[union-attr]
-            said = piped.stderr.read()  # type: ignore[union-attr]
-            piped.stderr.close()  # type: ignore[union-attr]
-            self.assertEqual((piped.wait(), said.count(b"\n")), (4, 1), said)
+            command_ = [str(ROOT / "workbench"), tool, *uses[tool]]
+            with subprocess.Popen(command_, stdout=subprocess.PIPE, stderr=subprocess.PIPE) as piped:
+                piped.stdout.close()  # type: ignore[union-attr]
+                said = piped.stderr.read()  # type: ignore[union-attr]
+            self.assertEqual((piped.returncode, said.count(b"\n")), (4, 1), said)
 
     def test_refusal_or_usage_line_in_the_place_of_a_report(self) -> None:
         for line in ("refused 9 BadLoad", "rejected 12 3 Owner", "refused 17 ShortInput", limits.USAGE):

@@ -9,8 +9,6 @@ from __future__ import annotations
 
 import argparse
 import statistics
-from typing import Any
-
 from ..running import sweep
 from . import guests, process, table
 
@@ -20,22 +18,17 @@ COLUMNS = ("taken", "adopted", "granted", "changes", *sweep.OF_NODES)
 NODES, BOUNDS = [0, 1, 2, 4], [0, 4, 256]
 
 
-def row(name: str, order: tuple[int, int, int], results: list[sweep.Result]) -> list[Any]:
-    """A line of the table, of an order's runs."""
-    _, nodes, bound = order
-    sums = [result.sums() for result in results]
-    cells = [statistics.mean(one[column] for one in sums) if nodes or column not in sweep.OF_NODES else None
-             for column in COLUMNS]
-    seconds = statistics.median(float(result.seconds) for result in results)
-    return [name, f"`nodes {nodes} {bound}`" if nodes else "`run`", *cells, seconds]
-
-
 def measure(name: str, settings: list[sweep.Setting], to: table.Table) -> None:
     orders: dict[tuple[int, int, int], list[sweep.Result]] = {}
     for result in sweep.results(guests.file_of(name), settings):
         orders.setdefault(result.setting.order(), []).append(result)
-    for order, results in orders.items():
-        to.row(row(name, order, results), [(result.seconds, result.sums()) for result in results])
+    for (_, nodes, bound), results in orders.items():
+        sums = [result.sums() for result in results]
+        cells = [statistics.mean(one[column] for one in sums) if nodes or column not in sweep.OF_NODES else None
+                 for column in COLUMNS]
+        seconds = statistics.median(float(result.seconds) for result in results)
+        to.row([name, f"`nodes {nodes} {bound}`" if nodes else "`run`", *cells, seconds],
+               [(result.seconds, one) for result, one in zip(results, sums)])
 
 
 def main(words: list[str]) -> int:

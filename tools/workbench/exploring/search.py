@@ -8,6 +8,7 @@ from __future__ import annotations
 
 import functools
 import hashlib
+import itertools
 import marshal
 import math
 import multiprocessing
@@ -267,14 +268,14 @@ class Search:
         self.is_stopped = self.whole = False
         self.shares: Shares
         self.mark = hashlib.blake2b(repr((VERSION, guest.ranges, guest.entries, guest.guards, fuel, self.asked)).encode()).digest()
-        if before is not None:
-            self.resume(guest, fuel, most, before)
-            return
         try:
-            self.search(guest, fuel, most, processes, False)
+            if before is None:
+                self.search(guest, fuel, most, processes, False)
+            else:
+                self.resume(guest, fuel, most, before)
         except steps.Elsewhere:
             self.shares.close()
-            self.search(guest, fuel, most, processes, True)
+            self.search(guest, fuel, most, processes if before is None else self.shares.count, True)
 
     def search(self, guest: model.Guest, fuel: int, most: int, processes: int, whole: bool) -> None:
         """Searches in this process, and where that takes long in several."""
@@ -297,9 +298,10 @@ class Search:
 
     def finish(self) -> None:
         """Walks to the end from where the search stopped."""
-        many = 0 if self.is_answered() else -(-self.many // self.shares.count)
-        walks = self.shares.all("walked", *([seed, many] for seed in range(self.shares.count)))
-        self.walks: list[Walk] = [walk for some in walks for walk in some]
+        self.walks: list[Walk] = []
+        if not self.is_answered():
+            words = [[seed, -(-self.many // self.shares.count)] for seed in range(self.shares.count)]
+            self.walks += itertools.chain(*self.shares.all("walked", *words))
 
     def resume(self, guest: model.Guest, fuel: int, most: int, before: bytes) -> None:
         """Goes on where a search stopped, with as many processes as it had."""
@@ -313,12 +315,8 @@ class Search:
             raise NoSearch("it is a search of another guest, with other fuel or for other rules, or by another version")
         self.shares = Shares(guest, fuel, self.asked, len(parts), self.all_kept)
         self.shares.all("go_on", *[[part] for part in parts])
-        try:
-            self.run(self.states + most)
-            self.finish()
-        except steps.Elsewhere:
-            self.shares.close()
-            self.search(guest, fuel, most, len(parts), True)
+        self.run(self.states + most)
+        self.finish()
 
     def kept(self) -> bytes:
         """What a later search goes on from."""

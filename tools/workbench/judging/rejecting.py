@@ -45,15 +45,13 @@ def block_of(line: str, stamp: int) -> report.Block | None:
 def read(text: bytes) -> tuple[list[report.Block], int | None]:
     """The blocks of a history's text, up to the first line that is wrong; and the number of that line, or None."""
     blocks: list[report.Block] = []
-    lines = text.decode("ascii", "replace").split("\n")
+    *lines, rest = text.decode("ascii", "replace").split("\n")
     for number, line in enumerate(lines, 1):
-        if number == len(lines) and not line:
-            break
-        block = block_of(line, number - 1) if number < len(lines) else None
+        block = block_of(line, number - 1)
         if block is None:
             return blocks, number
         blocks.append(block)
-    return blocks, None
+    return blocks, len(lines) + 1 if rest else None
 
 
 class Checker(legal.Run):
@@ -141,13 +139,14 @@ def ask_both(file: bytes, numbers: tuple[int, ...], history: bytes, kept: str) -
     given = Given(len(file), numbers, file + history)
     for form in "replay", "profile":
         answers = program.run((form, len(file), *numbers), file + history), given.answer(form)
+        if answers[0] == answers[1]:
+            continue
         said, must = (f"status {status}, {text[:80]!r}" for status, text in answers)
         if answers[0][0] == answers[1][0] == 0:
             pairs = itertools.zip_longest(*(text.splitlines() for _, text in answers))
-            said, must = next(((line, other) for line, other in pairs if line != other), ("", ""))
-        if answers[0] != answers[1]:
-            where = program.keep(kept, history)
-            raise report.Wrong(f"{form} answers {said!r}, and not {must!r}, to the history in {where}")
+            said, must = next((line, other) for line, other in pairs if line != other)
+        where = program.keep(kept, history)
+        raise report.Wrong(f"{form} answers {said!r}, and not {must!r}, to the history in {where}")
     return given
 
 
