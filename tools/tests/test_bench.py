@@ -187,14 +187,15 @@ class Sweep(Case):
                              ("philosophers.elf", "model", "all", ""))
             self.assertEqual(int(row["blocks"]), text.count(b"\nblock "))
 
-    def test_standard_input(self) -> None:
+    def test_lines(self) -> None:
+        """Of standard input, of each lock, and of a guest without locks."""
         done = run(f"sweep {QUICK} -", given=(GUESTS / "first.elf").read_bytes())
         self.assertEqual(done.stdout.replace(b"\n-,", b"\nfirst.elf,"), run(f"sweep {QUICK}", elf("first")).stdout)
-
-    def test_a_line_for_each_lock(self) -> None:
         rows = swept("--workers 2 --batch 1 --runs 1 --locks", "philosophers")
         self.assertEqual([(row["lock"], row["sections"]) for row in rows],
                          [(str(lock), "24") for lock in range(5)] + [("5", "60")])
+        row, = swept(QUICK, "exit")
+        self.assertEqual((row["sections"], row["longest"], row["blocks"], row["turns"]), ("0", "0", "1", "2"))
 
     def test_what_batch_limits_say(self) -> None:
         """With 0 nothing is adopted; with B no row is longer, and the data stays."""
@@ -233,10 +234,6 @@ class Sweep(Case):
                 found.append(hall.next_in_line(0, worker))
                 hall.line[0].remove(found[-1])
             self.assertEqual(found, wanted, (nodes, bound))
-
-    def test_a_guest_without_locks(self) -> None:
-        row, = swept(QUICK, "exit")
-        self.assertEqual((row["sections"], row["longest"], row["blocks"], row["turns"]), ("0", "0", "1", "2"))
 
     def test_by_the_program(self) -> None:
         """One that is made up, in the place of the built one."""

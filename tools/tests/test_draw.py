@@ -78,12 +78,10 @@ class Page(Case):
         lock = data_of(made(BY_HAND, path))["words"][0]
         self.assertEqual((lock["addresses"], lock["values"], lock["note"]), ([maker.DATA], [0], "1 of its 100 words"))
 
-    def test_a_release_stands_with_what_it_hands_on(self) -> None:
+    def test_releases_and_broken_locks(self) -> None:
+        """A release stands with what it hands on. Thread 0 of 5 turns ends as spent in its section, block 1."""
         rows = data_of(made(BY_HAND, None))["blocks"]
         self.assertEqual([row[8] for row in rows], [-1, -1, -1, 1, -1, -1])
-
-    def test_broken_locks(self) -> None:
-        """Thread 0 of 5 turns ends as spent in its section, block 1."""
         text = "".join(BY_HAND.splitlines(keepends=True)[:5]).replace("turns 7", "turns 3").replace("unlocked 0", "spent")
         self.assertEqual(data_of(made(text, None))["broken"], [1])
         self.assertEqual(data_of(made(BY_HAND, None))["broken"], [-1])
@@ -200,10 +198,7 @@ class Lanes(Case):
         rows, said = lanes(GRANTED)
         self.assertEqual(rows["lock 0"], "01")
         self.assertIn("Moves of locks to another worker: lock 0: 1 in 2 sections.", said)
-
-    def test_lock_is_with_the_worker_that_adopts(self) -> None:
-        """In BY_HAND block 2 stands between the release and the adopted section."""
-        for text in (BY_HAND, BY_HAND_V1):
+        for text in (BY_HAND, BY_HAND_V1):  # block 2 stands between the release and the adopted section
             self.assertEqual(lanes(text)[0]["lock 0"], "000")
 
     def test_granted_lock_is_with_no_worker(self) -> None:

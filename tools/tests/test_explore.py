@@ -384,15 +384,13 @@ class Rules(Case):
     END = rules.End((("exit", 7), ("fault 4", 2**32 - 1), ("spent", 0)),
                     ((0, 3, bytes([1, 0, 0, 0, 255, 255, 255, 255])), (1, 2, bytes(4))))
 
-    def test_values(self) -> None:
+    def test_values_and_truth(self) -> None:
         for text, value in (
                 ("lock 0 word 0", 1), ("lock 0 word 1", 2**32 - 1), ("lock 0 signed 1", -1), ("lock 0 sections", 3),
                 ("lock 1 broken", 1), ("thread 0 x10", 7), ("thread 1 signed x10", -1), ("thread 0 exit", 1),
                 ("thread 1 exit", 0), ("thread 1 fault", 4), ("thread 0 fault", 0), ("thread 2 spent", 1), ("faults", 1),
                 ("spent", 1), ("broken", 1), ("1 + 2 * 3 - -4", 11), ("(1 + 2) * 3", 9), ("0x10", 16), ("10 - 2 - 3", 5)):
             self.assertEqual(rules.Rule(text, 3, [8, 4]).value(self.END), value, text)
-
-    def test_truth(self) -> None:
         for text, holds in (
                 ("lock 0 word 0 == 1 and not thread 1 exit", True), ("faults or spent > 5", True), ("not faults", False),
                 ("not faults or broken", True), ("not (faults or broken)", False), ("lock 0 sections + lock 1 sections != 5", False),

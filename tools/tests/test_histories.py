@@ -61,13 +61,11 @@ class ByHand(Case):
         done = run("judge", GUEST, given="\n".join(lines) + "\n")
         self.one_line(done, 3, "block 4: its kind is adopted, and must be taken: worker 0 released the lock and then ran block 3")
 
-    def test_what_would_have_been_legal(self) -> None:
+    def test_what_would_have_been_legal_and_why_a_section_was_granted(self) -> None:
         done = run("finish", GUEST, given=BY_HAND.replace("batch 4", "batch 0"))
         self.says("block 3 thread 1 turns 7 held 0 kind granted worker 0 pc 0010000c end unlocked 0"
                   "  # or worker 1", done)
         self.says("block 3 thread 0 turns 2 held - kind on", done)
-
-    def test_why_a_section_was_granted(self) -> None:
         text = BY_HAND.replace("batch 4", "batch 0").replace("adopted", "granted")
         self.says("\n  granted: thread 1 waited for lock 0 from block 2 on (worker 1); thread 0 released it in block 1, "
                   "with 0 adopted sections in a row: the batch limit; away from the thread's own worker\n",

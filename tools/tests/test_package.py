@@ -144,12 +144,11 @@ class WrongUses(Case):
                 said = piped.stderr.read()  # type: ignore[union-attr]
             self.assertEqual((piped.returncode, said.count(b"\n")), (4, 1), said)
 
-    def test_refusal_or_usage_line_in_the_place_of_a_report(self) -> None:
+    def test_another_answer_in_the_place_of_a_report(self) -> None:
+        """A refusal, a rejection or the usage line, which are said; a summary or a profile."""
         for line in ("refused 9 BadLoad", "rejected 12 3 Owner", "refused 17 ShortInput", limits.USAGE):
             for tool in ("judge", "summary", "draw"):
                 self.one_line(run(tool, *self.WORDS[tool], "-", given=line + "\n"), 3, line)
-
-    def test_a_summary_or_a_profile_in_the_place_of_a_report(self) -> None:
         for line in "tclocks demo 3", "tclocks profile 1":
             for tool in self.TOOLS[:-1]:
                 self.one_line(run(tool, *self.WORDS[tool], "-", given=f"{line}\nend\n"), 3)

@@ -118,23 +118,20 @@ def check(name: str, known: dict[str, list[Any]]) -> tuple[bool, collections.Cou
     """Checks a guest. Answers whether it passed, and how changed histories were answered."""
     file = (places.GUESTS / f"{name}.elf").read_bytes()
     contended, shown, draw, kept = name in CONTENDED, Shown(), random.Random(name), f"check-{name}.txt"
-    for words in OPTIONS + (MORE if contended else []):
-        if shown.runs >= len(OPTIONS) and not shown.missing():
-            break
-        try:
+    try:
+        for words in OPTIONS + (MORE if contended else []):
+            if shown.runs >= len(OPTIONS) and not shown.missing():
+                break
             text = check_run(file, known, words)
             forms = spoil.FORMS if shown.runs % CHANGED == 0 else ()
             reasons = rejecting.give_back(file, words[-3:], text, draw, forms, kept)
             shown.answers.update(reason or TAKEN for reason in reasons)
-        except report.Wrong as wrong:
-            print(f"{name}: FAILED: {' '.join(map(str, words))}: {wrong}")
-            return False, shown.answers
-        shown.add(text)
-    if contended and shown.missing():
-        print(f"{name}: FAILED: {shown.missing()}")
-        return False, shown.answers
-    print(f"{name}: passed, {shown}", flush=True)
-    return True, shown.answers
+            shown.add(text)
+        wrong = shown.missing() if contended else None
+    except report.Wrong as why:
+        wrong = f"{' '.join(map(str, words))}: {why}"
+    print(f"{name}: FAILED: {wrong}" if wrong else f"{name}: passed, {shown}", flush=True)
+    return not wrong, shown.answers
 
 
 def check_reasons(answers: collections.Counter[str]) -> bool:

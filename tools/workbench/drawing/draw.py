@@ -11,7 +11,7 @@ from __future__ import annotations
 from argparse import Namespace
 from .. import tool
 from ..guest import guestfile, names, sources
-from ..reports import timeline
+from ..reports import report, timeline
 from . import overview, page, svg, textlanes, traceevents
 
 MOST = 2000  # blocks that are drawn each
@@ -56,7 +56,7 @@ def main(words: list[str]) -> None:
     parser.add_argument("--colour", action="store_true", help="with --text: colours even into a file")
     asked = parser.parse_args(words)
     asked.file = guestfile.load(asked.guest) if asked.guest else None
-    line = timeline.read(asked.report)
+    line = timeline.of(report.Report(tool.read_lines(asked.report)))
     text = line.text
     called = names.Names(text, asked.file)
     asked.title = asked.title or text.title()

@@ -63,10 +63,6 @@ class Graded(NamedTuple):
     answers: list[str]
     histories: dict[int, str]
 
-    @property
-    def right(self) -> int:
-        return sum(answer in RIGHT for answer in self.answers)
-
 
 def guests(folder: pathlib.Path) -> list[pathlib.Path]:
     """The guests of a folder, by name."""
@@ -105,7 +101,8 @@ def graded(name: str, path: pathlib.Path, asked: Namespace) -> Graded:
 
 def print_text(rules: list[Rule], results: list[Graded]) -> None:
     rows = [["guest", "file", *(f"rule {number}" for number in range(1, len(rules) + 1)), "right"]]
-    rows += [[one.name, one.file, *one.answers, f"{one.right} of {len(rules)}"] for one in results]
+    rows += [[one.name, one.file, *one.answers, f"{sum(said in RIGHT for said in one.answers)} of {len(rules)}"]
+             for one in results]
     tool.print_columns(rows, str.ljust)
     print()
     for number, rule in enumerate(rules, 1):

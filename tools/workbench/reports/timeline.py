@@ -4,7 +4,6 @@ from __future__ import annotations
 
 from typing import Any, Iterator, NamedTuple, Optional, Tuple
 
-from .. import tool
 from . import counts, report
 
 ASLEEP, SHIPPED, WAITING, WANTS, HOLDS = "asleep", "shipped", "waiting", "wants", "holds"
@@ -153,7 +152,3 @@ def of(text: report.Report) -> Timeline:
     text.ends()
     line.close()
     return line
-
-
-def read(path: str) -> Timeline:
-    return of(report.Report(tool.read_lines(path)))
