@@ -77,7 +77,7 @@ class Explainer:
             traced = list(tracing.trace(self.run, self.file, self.lines, block.thread))
         moved = list(self.contexts.before(block)) if self.contexts else []
         batch = copy.copy(self.run.batches[block.begun]) if block.begun is not None and block.passed_on else None
-        self.run.follow(block, f", line {self.text.lines.number}")
+        self.run.follow(block, f", line {self.text.number}")
         is_away = self.counts.add(block)
         yield f"{block.line(self.text.version)}  # {start}"
         if batch and came:
@@ -159,5 +159,5 @@ def main(words: list[str]) -> None:
         return
     except report.Wrong as wrong:
         raise tool.Trouble(tool.WRONG, f"not legal: {wrong} (./workbench judge)") from None
-    if text.lines.next is None:
-        tool.note("explain", f"the report stops behind line {text.lines.number - 1}")
+    if text.next is None:
+        tool.note("explain", f"the report stops behind line {text.number - 1}")

@@ -209,15 +209,15 @@ def replay(guest: model.Guest, lines: Iterable[str]) -> tuple[Run, bool]:
     text = report.Report(lines)
     run = begin(guest, text)
     for block in text.blocks():
-        run.follow(block, f", line {text.lines.number}")
-    if text.lines.next is None:
+        run.follow(block, f", line {text.number}")
+    if text.next is None:
         return run, False
     for expected in run.ending_lines():
-        if text.lines.next != expected:
-            raise text.lines.wrong(repr(expected))
-        text.lines.take()
-    if text.lines.next is not None or text.lines.cut:
-        raise Wrong(f"line {text.lines.number}: something stands behind the line 'end'")
+        if text.next != expected:
+            raise text.must(repr(expected))
+        text.take()
+    if text.next is not None or text.cut:
+        raise Wrong(f"line {text.number}: something stands behind the line 'end'")
     return run, True
 
 

@@ -156,13 +156,24 @@ def ending_lines(threads: Iterable[ThreadEnd], locks: Iterable[LockEnd]) -> Iter
     yield "end"
 
 
-class Lines:
-    """Numbered lines without their ends; one can be looked at before it is taken."""
+class Report:
+    """A report that is read from its lines: the header at once, then `blocks`, then `ends`. Lines are numbered and
+    lose their ends, and the next one can be looked at before it is taken."""
 
     def __init__(self, lines: Iterable[str]) -> None:
         self.lines, self.number, self.cut = iter(lines), 0, False
         self.next: str | None = None
         self.take()
+        self.version = self.first_line()
+        self.threads, self.guards = self.guest_line()
+        options = options_of(self.next or "", self.number)
+        if not options:
+            raise self.must("'run workers W fuel F batch B'")
+        self.take()
+        self.workers, self.fuel, self.batch = (options[name] for name in limits.RUN)
+        self.thread_ends: list[ThreadEnd] = []
+        self.lock_ends: list[LockEnd] = []
+        self.whole = False
 
     def take(self) -> str:
         """The line in front, or '' behind the last whole one."""
@@ -173,7 +184,8 @@ class Lines:
             self.next = None if self.cut else self.next[:-1]
         return line
 
-    def wrong(self, what: str) -> Wrong:
+    def must(self, what: str) -> Wrong:
+        """What is wrong where the next line must be something else."""
         shown = "the text ends" if self.next is None else f"it is {self.next[:100]!r}"
         return Wrong(f"line {self.number} must be {what}: {shown}")
 
@@ -181,28 +193,11 @@ class Lines:
         """The line in front, of this form; Wrong where it is another."""
         found = re.fullmatch(form, self.next or "")
         if not found:
-            raise self.wrong(what)
+            raise self.must(what)
         return found
 
-
-class Report:
-    """A report that is read from its lines: the header at once, then `blocks`, then `ends`."""
-
-    def __init__(self, lines: Iterable[str]) -> None:
-        self.lines = Lines(lines)
-        self.version = self.first_line()
-        self.threads, self.guards = self.guest_line()
-        options = options_of(self.lines.next or "", self.lines.number)
-        if not options:
-            raise self.lines.wrong("'run workers W fuel F batch B'")
-        self.lines.take()
-        self.workers, self.fuel, self.batch = (options[name] for name in limits.RUN)
-        self.thread_ends: list[ThreadEnd] = []
-        self.lock_ends: list[LockEnd] = []
-        self.whole = False
-
     def first_line(self) -> int:
-        line = self.lines.next
+        line = self.next
         if line is None:
             raise Wrong("this is no report: it is empty, or stops in its first line")
         if ANSWER.fullmatch(line):
@@ -211,35 +206,35 @@ class Report:
             if line.startswith(f"tclocks {form} "):
                 raise Wrong(f"this is {what} and no report: it has no blocks")
         if line not in ("tclocks 1", "tclocks 2"):
-            raise self.lines.wrong("'tclocks 1' or 'tclocks 2'")
-        return int(self.lines.take()[8:])
+            raise self.must("'tclocks 1' or 'tclocks 2'")
+        return int(self.take()[8:])
 
     def guest_line(self) -> tuple[int, int]:
-        threads, guards = map(int, self.lines.match(GUEST, "'guest threads N guards M'").groups())
+        threads, guards = map(int, self.match(GUEST, "'guest threads N guards M'").groups())
         for name, value, least, most in (("threads", threads, 1, limits.THREADS), ("guards", guards, 0, limits.GUARDS)):
             if not least <= value <= most[self.version]:
-                raise self.lines.wrong(f"about {least} to {most[self.version]} {name}")
-        self.lines.take()
+                raise self.must(f"about {least} to {most[self.version]} {name}")
+        self.take()
         return threads, guards
 
     def blocks(self) -> Iterator[Block]:
         stamp, sets = 0, {"-": ()}  # type: int, dict[str, tuple[int, ...]]
-        while self.lines.next is not None and self.lines.next.startswith("block "):
+        while self.next is not None and self.next.startswith("block "):
             yield self.block(stamp, sets)
-            self.lines.take()
+            self.take()
             stamp += 1
 
     def block(self, stamp: int, sets: dict[str, tuple[int, ...]]) -> Block:
-        found = BLOCK.fullmatch(self.lines.next or "")
+        found = BLOCK.fullmatch(self.next or "")
         if not found or (found[7] is None) != (self.version == 1):
-            raise self.lines.wrong(f"the line of block {stamp}")
+            raise self.must(f"the line of block {stamp}")
         read, thread, turns, held, kind, worker, pc, end = found.groups()
         if held not in sets:
             sets[held] = self.held_set(held, stamp)
         block = Block(int(read), int(thread), int(turns), sets[held], kind, int(worker),
                       None if pc is None else int(pc, 16), end)
         if block.stamp != stamp:
-            raise self.lines.wrong(f"the line of block {stamp}")
+            raise self.must(f"the line of block {stamp}")
         if block.thread >= self.threads:
             raise self.wrong(stamp, f"there is no thread {block.thread}, but threads 0 to {self.threads - 1}")
         if block.worker >= self.workers:
@@ -249,7 +244,7 @@ class Report:
         return block
 
     def wrong(self, stamp: int, what: str) -> Wrong:
-        return Wrong(f"block {stamp}, line {self.lines.number}: {what}")
+        return Wrong(f"block {stamp}, line {self.number}: {what}")
 
     def held_set(self, held: str, stamp: int) -> tuple[int, ...]:
         locks = tuple(int(word) for word in held.split(",") if word and len(word) < 3)
@@ -259,44 +254,44 @@ class Report:
 
     def ends(self) -> None:
         """Reads what stands behind the blocks, as far as it goes."""
-        while self.lines.next is not None and self.lines.next != "end":
+        while self.next is not None and self.next != "end":
             self.part()
-        if self.lines.next == "end":
+        if self.next == "end":
             self.whole = True
-            self.lines.take()
-            if self.lines.next is not None or self.lines.cut:
-                raise Wrong(f"line {self.lines.number}: something stands behind the line 'end'")
+            self.take()
+            if self.next is not None or self.cut:
+                raise Wrong(f"line {self.number}: something stands behind the line 'end'")
 
     def part(self) -> None:
         """A thread with its registers, or a lock with its bytes."""
-        line = self.lines.next or ""
+        line = self.next or ""
         thread, lock = THREAD.fullmatch(line), LOCK.fullmatch(line)
         if thread and int(thread[1]) == len(self.thread_ends) < self.threads:
-            self.lines.take()
+            self.take()
             self.thread_ends.append(ThreadEnd(thread[2], int(thread[3]), int(thread[4], 16), self.registers()))
         elif lock and int(lock[1]) == len(self.lock_ends) < self.guards:
-            self.lines.take()
+            self.take()
             self.lock_ends.append(LockEnd(int(lock[2]), int(lock[3]), *self.data(int(lock[4]))))
         else:
-            raise self.lines.wrong("how a thread or a lock ends, or 'end'")
+            raise self.must("how a thread or a lock ends, or 'end'")
 
     def registers(self) -> tuple[int, ...]:
         values: list[int] = []
         for first in range(0, 32, 8):
-            if self.lines.next is None:
+            if self.next is None:
                 break
-            found = self.lines.match(f"x{first}((?: [0-9a-f]{{8}}){{8}})", f"the registers from x{first} on")
+            found = self.match(f"x{first}((?: [0-9a-f]{{8}}){{8}})", f"the registers from x{first} on")
             values += [int(word, 16) for word in found[1].split()]
-            self.lines.take()
+            self.take()
         return tuple(values)
 
     def data(self, size: int) -> tuple[int, bytes]:
         address, content = 0, b""
-        while len(content) < size and self.lines.next is not None:
-            found = self.lines.match(DATA, f"bytes {len(content)} to {size - 1} of the lock")
+        while len(content) < size and self.next is not None:
+            found = self.match(DATA, f"bytes {len(content)} to {size - 1} of the lock")
             address = address if content else int(found[1], 16)
             content += bytes.fromhex(found[2])
-            self.lines.take()
+            self.take()
         return address, content
 
     def title(self) -> str:
@@ -307,5 +302,5 @@ class Report:
     def tell_cut(self, name: str) -> None:
         """Says of a report that stops early where it does, for a tool."""
         if not self.whole:
-            tool.note(name, f"the report stops behind line {self.lines.number - 1}, without the line 'end'; "
+            tool.note(name, f"the report stops behind line {self.number - 1}, without the line 'end'; "
                       "what it has up to there is used")
