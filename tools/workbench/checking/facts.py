@@ -161,11 +161,6 @@ def run(guest: model.Guest, chance: random.Random) -> model.Machine:
     return machine
 
 
-def turns(machine: model.Machine) -> list[int | None]:
-    """How many turns each thread took to its end; None where it has none but for spent fuel."""
-    return [None if thread.end == "spent" else FUEL - thread.fuel for thread in machine.threads]
-
-
 def main(given: list[str]) -> None:
     tool.words("facts", __doc__).parse_args(given)
     table = {"exit": facts(["exit"], [0], pc=[0x10058])}
@@ -175,7 +170,9 @@ def main(given: list[str]) -> None:
         guest = model.Guest((places.GUESTS / f"{name}.elf").read_bytes())
         chance = random.Random(name)
         machines = [run(guest, chance) for _ in range(INTERLEAVINGS)]
-        counts = [turns(machine) for machine in machines]
+        # How many turns each thread took to its end; None where it has none but for spent fuel.
+        counts = [[None if thread.end == "spent" else FUEL - thread.fuel for thread in machine.threads]
+                  for machine in machines]
         same = all(count == counts[0] for count in counts)
         known["turns"] = counts[0] if same else [None] * len(counts[0])
         for machine in machines:

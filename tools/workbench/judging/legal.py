@@ -28,13 +28,19 @@ class Batch:
         self.last: Block | None = None  # the block that released the lock
         self.next: int | None = None  # the stamp of the next block of the worker that released
 
-    def kinds(self, thread: int, worker: int, stamp: int) -> list[str]:
-        """The kinds for a thread whose last block has this stamp, with this worker."""
-        if self.last is None or not self.waited(thread, stamp):
+    def rule(self, worker: int) -> list[str]:
+        """The kinds that the rule alone lets stand, with this worker."""
+        if self.last is None:
             return ["taken"]
         if not self.last.leaves_free or self.adopted >= self.limit:
             return ["taken", "granted"]
-        return ["taken", "adopted"] if worker == self.last.worker and self.next is None else ["taken"]
+        return ["taken", "adopted"] if worker == self.last.worker else ["taken"]
+
+    def kinds(self, thread: int, worker: int, stamp: int) -> list[str]:
+        """The kinds for a thread whose last block has this stamp, with this worker."""
+        if not self.waited(thread, stamp):
+            return ["taken"]
+        return [kind for kind in self.rule(worker) if kind != "adopted" or self.next is None]
 
     def waited(self, thread: int, stamp: int) -> bool:
         return self.last is not None and thread != self.last.thread and (self.next is None or stamp < self.next)

@@ -69,20 +69,11 @@ class Checker(legal.Run):
         turns, held, end = self.machine.run_block(block.thread)
         if (block.turns, block.held, block.pc, block.end) != (turns, tuple(sorted(held)), pc, end):
             return BLOCK
-        kinds = ("start" if is_first else "on",) if lock is None else limits.SECTIONS
-        if block.kind not in kinds or (lock is not None and not self.allows(self.batches[lock], block)):
+        kinds = ["start" if is_first else "on"] if lock is None else self.batches[lock].rule(block.worker)
+        if block.kind not in kinds:
             return KIND
         self.note(block)
         return WORKER if block.worker >= self.workers else None
-
-    @staticmethod
-    def allows(batch: legal.Batch, block: report.Block) -> bool:
-        """Whether a block may begin a section of a lock, by its batch rule."""
-        if batch.last is None:
-            return block.kind == "taken"
-        adopts = batch.last.leaves_free and batch.adopted < batch.limit
-        return {"taken": True, "adopted": adopts and block.worker == batch.last.worker,
-                "granted": not adopts}[block.kind]
 
     def rejected(self, blocks: list[report.Block]) -> tuple[int, str] | None:
         """The line and the reason of the first wrong place, or None."""

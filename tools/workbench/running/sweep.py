@@ -51,10 +51,6 @@ class Setting(NamedTuple):
         """What its runs are told apart by beside the batch limit."""
         return self.workers, self.nodes, self.bound
 
-    def words(self) -> tuple[Any, ...]:
-        form = ("nodes", self.nodes, self.bound) if self.nodes else ("run",)
-        return (*form, self.workers, self.fuel, self.batch)
-
 
 class Result(NamedTuple):
     """What a run did: each lock's numbers and its sections' workers, the run's blocks, turns and seconds."""
@@ -98,7 +94,8 @@ def counted(setting: Setting, shape: Any, blocks: Iterable[report.Block], second
 
 
 def by_program(file: bytes, setting: Setting) -> Result:
-    words = setting.words()
+    form = ("nodes", setting.nodes, setting.bound) if setting.nodes else ("run",)
+    words = *form, setting.workers, setting.fuel, setting.batch
     began = time.perf_counter()
     status, text = program.run(words, file)
     seconds = f"{time.perf_counter() - began:.3f}"
