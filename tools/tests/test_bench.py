@@ -282,7 +282,7 @@ class Orders(Case):
     def test_the_youngest_comes_first_within_the_bound(self) -> None:
         """Threads 1, 2 and 3 wait in this order, and whoever is served first and second comes again."""
         worker = delegation.Worker(0)
-        for bound, wanted in (0, [1, 2, 3, 1, 2]), (1, [3, 1, 2, 1, 3]), (2, [3, 3, 1, 2, 3]), (9, [3, 3, 3, 2, 1]):
+        for bound, wanted in (0, "12312"), (1, "31213"), (2, "33123"), (9, "33321"):
             hall = orders.YoungestHall(guestfile.load(elf("counter")).guest, 1, 100, 8, 0, bound=bound)
             hall.line[0] = [0, 1, 2, 3]
             hall.linked = {(thread, 0) for thread in (1, 2, 3)}
@@ -294,11 +294,11 @@ class Orders(Case):
                 if go < 2:
                     hall.line[0].append(found[-1])
                     hall.shipped[found[-1]] = [0, 0]
-            self.assertEqual(found, wanted, bound)
+            self.assertEqual("".join(map(str, found)), wanted, bound)
 
     def test_where_nobody_may_be_passed_all_are_alike(self) -> None:
         words = ("--workers", "4", "--batch", "8", "--runs", "2")
-        rows = table(run("orders", elf("counter"), *words, "--bound", "0", "--plot", TEMPORARY / "orders.svg"))
+        rows = table(run("orders --bound 0", elf("counter"), *words, "--plot", TEMPORARY / "orders.svg"))
         swept = table(run("sweep", elf("counter"), *words, "--model"))
         self.assertEqual([(row.pop("order"), row["seed"]) for row in rows],
                          [(order, seed) for order in ("entry", "nodes", "youngest") for seed in "12"])

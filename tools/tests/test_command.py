@@ -29,7 +29,7 @@ FORMS = ("run 1 1 0", "run 8 65536 256", "run 4 20000 8", "gen 1", "gen 2000", "
 OUTSIDE = (ROOT / "crates/tc_tests/src/outside.rt").read_text()
 TABLE = re.findall(r"const NO_FORM: &str = \"\\n\\\n([^\"]*)\";", OUTSIDE)[0]
 WRONG = [[word.encode().replace(b"_", b" ").replace(b"?", b"\xff") for word in line.split()]
-         for line in ("", *TABLE.splitlines(), "run -1 1 0", "run 1 1 99999999999999999999", "-h", "run 1 ٣ 0")]
+         for line in ("", *TABLE.splitlines(), "run -1 1 0", "run 1 1 99999999999999999999", "-h", "gen ٣")]
 WRONG += [b"gen", b"1\n"], [b"gen", b""]
 
 

@@ -14,8 +14,8 @@ from tools.workbench import command
 from tools.workbench.checking import definitions
 from tools.workbench.guest import guestfile
 from tools.workbench.running import delegation
-from .common import (ANSWERS, COMPILER, COURSE, DOCS, GUESTS, MADE_UP, ROOT, TEMPORARY, Case, elf, process, run,
-                     saved, script)
+from .common import (ANSWERS, COMPILER, COURSE, DOCS, GUESTS, MADE_UP, ROOT, TEMPORARY, Case, elf, process,
+                     run, saved, script)
 
 
 PICTURES = DOCS / "pictures"

@@ -16,8 +16,8 @@ from typing import Any, Callable
 from tools.workbench.drawing import overview, page, svg
 from tools.workbench.guest import guestfile, made as maker, names, sources
 from tools.workbench.reports import report, timeline
-from .common import (BY_HAND, BY_HAND_V1, DOCS, FINISHED, GUEST, NAMES, ONE, ROOT, TEMPORARY, Case, elf, history,
-                     run, saved, told)
+from .common import (BY_HAND, BY_HAND_V1, DOCS, FINISHED, GUEST, NAMES, ONE, ROOT, TEMPORARY, Case, elf,
+                     history, run, saved, told)
 
 
 PHILOSOPHERS = history("philosophers", 4, 8, 1)
@@ -79,7 +79,7 @@ class Page(Case):
         self.assertEqual((lock["addresses"], lock["values"], lock["note"]), ([maker.DATA], [0], "1 of its 100 words"))
 
     def test_releases_and_broken_locks(self) -> None:
-        """A release stands with what it hands on. Thread 0 of 5 turns ends as spent in its section, block 1."""
+        """A release stands with what it hands on. Then thread 0 ends as spent in its section, block 1."""
         rows = data_of(made(BY_HAND, None))["blocks"]
         self.assertEqual([row[8] for row in rows], [-1, -1, -1, 1, -1, -1])
         text = "".join(BY_HAND.splitlines(keepends=True)[:5]).replace("turns 7", "turns 3").replace("unlocked 0", "spent")

@@ -19,8 +19,8 @@ from tools.workbench.exploring import explore, rules, search, steps
 from tools.workbench.guest import guestfile, made, model
 from tools.workbench.judging import rejecting
 from tools.workbench.running import delegation, program
-from .common import (ANSWERS, COMPILER, COURSE, EXIT, GUESTS, NAMES, ONE, ROOT, TEMPORARY, Case, built, call, elf,
-                     run, saved)
+from .common import (ANSWERS, COMPILER, COURSE, EXIT, GUESTS, NAMES, ONE, ROOT, TEMPORARY, Case, built, call,
+                     elf, run, saved)
 
 
 # Small guests that are drawn from a seed, and a search of all their interleavings by model.py without any
@@ -168,10 +168,10 @@ class EveryInterleaving(Case):
 
     def test_a_return_to_a_place_behind_no_call(self) -> None:
         """Which registers are read again is not known then, so all are kept."""
-        for link in steps.LINKS:
+        for x in steps.LINKS:
             code = made.code(
                 f"{BEGIN} LOCK 0; lw 7 5 0; addi 6 7 0; {one_of(random.Random(1), 0, *TWICE)} UNLOCK 0;"
-                f"auipc {link} 0; addi {link} {link} 16; jalr 0 {link} 0; ebreak; LOCK 0; UNLOCK 0; addi 10 6 0; EXIT")
+                f"auipc {x} 0; addi {x} {x} 16; jalr 0 {x} 0; ebreak; LOCK 0; UNLOCK 0; addi 10 6 0; EXIT")
             found, ends = self.same(built(code, (0, 0), 1), 100)
             self.assertIsNone(found.shares.alone.sections.live)  # type: ignore[union-attr]
             self.assertEqual({tuple(x10 for _, x10 in end.threads) for end in ends}, {(0, 1), (1, 0)})

@@ -24,7 +24,7 @@ def measure(name: str, settings: list[sweep.Setting], to: table.Table) -> None:
         orders.setdefault(result.setting.order(), []).append(result)
     for (_, nodes, bound), results in orders.items():
         sums = [result.sums() for result in results]
-        cells = [statistics.mean(one[column] for one in sums) if nodes or column not in sweep.OF_NODES else None
+        cells = [None if column in sweep.OF_NODES and not nodes else statistics.mean(one[column] for one in sums)
                  for column in COLUMNS]
         seconds = statistics.median(float(result.seconds) for result in results)
         to.row([name, f"`nodes {nodes} {bound}`" if nodes else "`run`", *cells, seconds],

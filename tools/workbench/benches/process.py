@@ -107,8 +107,8 @@ def run(words: tuple[Any, ...], given: IO[bytes], written: IO[bytes], path: Path
 @contextlib.contextmanager
 def over(file: bytes, words: tuple[Any, ...], path: Path | None = None,
          surroundings: dict[str, str] | None = None, said: str = "") -> Iterator[tuple[Took, IO[bytes]]]:
-    """Runs it over the bytes of a file: what it took, and what it wrote. Failed, with what is said of the run,
-    where its status is not 0."""
+    """Runs it over the bytes of a file: what it took, and what it wrote. Failed, with what is said of the
+    run, where its status is not 0."""
     with tempfile.TemporaryFile() as given, tempfile.TemporaryFile() as written:
         given.write(file)
         given.seek(0)

@@ -59,8 +59,8 @@ def check_facts(known: dict[str, list[Any]], machine: model.Machine, fuel: int) 
 
 
 def run(file: bytes, words: tuple[Any, ...]) -> tuple[str, model.Machine]:
-    """The report of a run, and the machine behind it; Wrong where the report is not that of a legal run, or of
-    one worker not the model's to the last byte."""
+    """The report of a run, and the machine behind it; Wrong where the report is not that of a legal run, or
+    of one worker not the model's to the last byte."""
     guest, (status, text) = model.Guest(file), program.run(words, file)
     workers, fuel, batch = words[-3:]
     if status:

@@ -106,8 +106,8 @@ class Draw(random.Random):
 
 
 def judge(file: bytes, options: tuple[int, ...], refused: str | None, draw: Draw, kept: str) -> str | None:
-    """Runs a file, and gives the history of its report back, and a changed one: why that is rejected. Wrong where
-    the program answers otherwise than it must; None too where the file is refused."""
+    """Runs a file, and gives the history of its report back, and a changed one: why that is rejected. Wrong
+    where the program answers otherwise than it must; None too where the file is refused."""
     if refused is None:
         text, _ = check.run(file, ("run", *options))
         return next(rejecting.give_back(file, options, text, draw, [draw.choice(spoil.FORMS)], kept))

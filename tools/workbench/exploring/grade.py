@@ -101,8 +101,9 @@ def graded(name: str, path: pathlib.Path, asked: Namespace) -> Graded:
 
 def print_text(rules: list[Rule], results: list[Graded]) -> None:
     rows = [["guest", "file", *(f"rule {number}" for number in range(1, len(rules) + 1)), "right"]]
-    rows += [[one.name, one.file, *one.answers, f"{sum(said in RIGHT for said in one.answers)} of {len(rules)}"]
-             for one in results]
+    for one in results:
+        right = sum(said in RIGHT for said in one.answers)
+        rows.append([one.name, one.file, *one.answers, f"{right} of {len(rules)}"])
     tool.print_columns(rows, str.ljust)
     print()
     for number, rule in enumerate(rules, 1):

@@ -23,8 +23,8 @@ from ..guest.rv32im import signed
 Value = Callable[["End"], int]  # of an end
 Operation = Callable[[int, int], int]
 TOKEN = re.compile(r"(\s*)(?:(0x[0-9a-fA-F]+|\d+|[a-z]\w*|==|!=|<=|>=|[-+*()<>])|(.+))", re.S)
-COMPARISONS: dict[str, Operation] = {
-    "==": operator.eq, "!=": operator.ne, "<": operator.lt, "<=": operator.le, ">": operator.gt, ">=": operator.ge}
+COMPARISONS: dict[str, Operation] = {"==": operator.eq, "!=": operator.ne, "<": operator.lt,
+                                     "<=": operator.le, ">": operator.gt, ">=": operator.ge}
 # The operations by how they bind, the weakest first; `not` stands before what is compared.
 LEVELS: tuple[dict[str, Operation], ...] = (
     {"or": lambda one, two: bool(one or two)}, {"and": lambda one, two: bool(one and two)}, COMPARISONS,

@@ -119,7 +119,8 @@ class Live:
         if is_return(what):
             return read, 1 << written, self.returns
         to, after = pc + what.value & MASK, pc + 4 & MASK
-        return read, 1 << written, {"jal": (to,)}.get(what.name, (after, to) if what.name[0] == "b" else (after,))
+        flow = {"jal": (to,)}.get(what.name) or ((after, to) if what.name[0] == "b" else (after,))
+        return read, 1 << written, flow
 
     def at(self, pc: int) -> int:
         return self.bits.get(pc, MASK)
@@ -230,7 +231,8 @@ def sum_of(to: int, a: int, b: int, sign: int, after: int, x: Registers, run: Ru
     return after
 
 
-def operated(of: Operation, to: int, a: int, b: int | None, value: int, after: int, x: Registers, _: Any) -> int:
+def operated(of: Operation, to: int, a: int, b: int | None, value: int, after: int, x: Registers,
+             _: Running) -> int:
     """x[to] = of(x[a], x[b]), or of a value in the place of x[b]."""
     x[to] = of(number(x, a), value if b is None else number(x, b)) & MASK
     return after

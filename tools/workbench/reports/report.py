@@ -157,8 +157,8 @@ def ending_lines(threads: Iterable[ThreadEnd], locks: Iterable[LockEnd]) -> Iter
 
 
 class Report:
-    """A report that is read from its lines: the header at once, then `blocks`, then `ends`. Lines are numbered
-    and lose their ends, and the next one can be looked at before it is taken."""
+    """A report that is read from its lines: the header at once, then `blocks`, then `ends`. Lines are
+    numbered and lose their ends, and the next one can be looked at before it is taken."""
 
     def __init__(self, lines: Iterable[str]) -> None:
         self.lines, self.number, self.cut = iter(lines), 0, False
