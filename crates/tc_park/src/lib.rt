@@ -9,7 +9,5 @@
 #![tactic(auto)]
 
 mod sleepers;
-#[cfg(test)]
-mod tests;
 
 pub use sleepers::Sleepers;

@@ -6,6 +6,9 @@ ghost use Rattle.tc_park.specs.Order.{Sleeps, IsFirstOf, IsFirstDue, IsEarlier, 
 use std::alloc::{AllocError, Global};
 use std::marker::Model;
 
+#[cfg(test)]
+mod tests;
+
 /// A thread that sleeps, and the turn at which it is due.
 #[derive(Clone, Copy)]
 pub(crate) struct Sleeper {

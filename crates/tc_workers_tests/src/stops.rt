@@ -19,6 +19,7 @@ use tc_combiner::{Bench, Settled};
 use tc_hall::hall::Hall;
 use tc_hall::pass::Pass;
 use tc_hall::place::OUT;
+use tc_isa::limits::MAX_WORKERS;
 use tc_queue::{Arrival, Queue, QueueSeat, Turn, Waiters};
 use tc_workers::bell::Bell;
 use tc_workers::crew::together;
@@ -240,7 +241,8 @@ pub(crate) fn stop_behind<R: Abort + Threads + Wait + Sync>(
 {
     let pass = spare(rt, bench, &mut crew);
     assert!(rt; !crew.is_empty());
-    let bell = Bell::new(crew.len() as u64);
+    // More are awaited than ever begin, as where the host gives too few threads: nobody waits for long.
+    let bell = Bell::new(u64::from(MAX_WORKERS));
     let gate = Stopping {
         rt,
         blocks,
