@@ -12,5 +12,6 @@ pub mod Ending
 pub mod Settling
 pub mod Fitting
 pub mod Ties
+pub mod Tails
 pub mod Sealing
 pub mod Telling

@@ -11,11 +11,11 @@ use Rattle.tc_combiner.proofs.Vocabulary.{EnterTie, LeaveTie, line_of}
 use Rattle.std.proofs.lemmas.Bool.{and_parts}
 use Rattle.tc_lemmas.proofs.Tests.{eq_self}
 
-entered_line : (image : Shown) (c : Core) (w t lock : ℕ) → line_of (effect image c (Enter w t lock)) lock ≡ line_of c lock ++ t ∷ []
+pub entered_line : (image : Shown) (c : Core) (w t lock : ℕ) → line_of (effect image c (Enter w t lock)) lock ≡ line_of c lock ++ t ∷ []
 unfolding effect
 entered_line image c w t lock = ap (λ (b : Bool). (if b then entered (c.custody lock) t else c.custody lock).line) (eq_self lock)
 
-left_line : (image : Shown) (c : Core) (w lock : ℕ) → line_of (effect image c (Leave w lock)) lock ≡ []
+pub left_line : (image : Shown) (c : Core) (w lock : ℕ) → line_of (effect image c (Leave w lock)) lock ≡ []
 unfolding effect
 left_line image c w lock = ap (λ (b : Bool). (if b then left_by_all (c.custody lock) else c.custody lock).line) (eq_self lock)
 

@@ -8,3 +8,4 @@ pub mod Answers
 pub mod Release
 pub mod Settling
 pub mod Ties
+pub mod Tails

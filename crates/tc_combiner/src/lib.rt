@@ -21,8 +21,9 @@
 //!   do. `specs/Packages.antt`: what is asked and said of packages. `specs/Answers.antt`: what became
 //!   of a package that wants a lock, and of one that is put back. `specs/Release.antt`: what became of
 //!   a released lock, and of all locks of a thread that ended. `specs/Settling.antt`: all of it by the
-//!   end of the block. `specs/Ties.antt`: the tail of a queue beside the line of the pure machine.
-//!   `specs/Vocabulary.antt`: the words of the layers below that these speak of.
+//!   end of the block. `specs/Ties.antt`: the tail of a queue beside the line of the pure machine;
+//!   `specs/Tails.antt`: the same over a whole order of calls and events. `specs/Vocabulary.antt`: the
+//!   words of the layers below that these speak of.
 //! - `desk`: desks and benches. `parts`: what a desk acts with, and what it shares. `settle`: what
 //!   `settle` does, over the parts of a desk. `acquire`, `unlock`, `ends`: what is done for a package
 //!   that wants a lock, at an unlock, and at a sleep or a thread's end. `release`: what becomes of a
@@ -50,4 +51,4 @@ mod waits;
 
 pub use desk::{Bench, Desk};
 pub use settled::Settled;
-pub use tie::line_tie;
+pub use tie::{line_tie, order_tie};
