@@ -70,11 +70,13 @@ class Command(Folder):
         said = self.answers(0, b"sources: run 1 1 0\nx", 1, "run", "1", "1", "0", given=b"x")
         self.assertRegex(said, r"^tclocks: the program is out of date: crates/tc_io/src/lib.rt is newer .*NOT PROVED.*\n$")
 
-    def test_an_old_program_runs_where_it_is_asked_for(self) -> None:
+    def test_an_old_program_or_the_sources_run_where_they_are_asked_for(self) -> None:
         self.write("crates/tc_io/src/lib.rt", "// newer\n")
         said = self.answers(0, b"x", 1, "cat", given=b"x", TCLOCKS_PROGRAM="old")
         self.assertRegex(said, r"^tclocks: the program is out of date.*\n$")
         self.answers(127, b"", 1, "cat", given=b"x", TCLOCKS_PROGRAM="built")
+        self.answers(0, b"sources: demo 1 1\n", 1, "demo", "1", "1", TCLOCKS_PROGRAM="sources")
+        self.assertEqual(self.command("cat", TCLOCKS_PROGRAM="new")[0], 126)
 
     def test_a_tool_takes_no_program_that_is_out_of_date(self) -> None:
         asked = [sys.executable, "-B", "-c", "from tools.workbench import tool; from tools.workbench.running import program; "
@@ -87,10 +89,6 @@ class Command(Folder):
         self.environment["TCLOCKS_PROGRAM"] = "old"
         self.assertEqual(process(*asked, cwd=self.root, env=self.environment).returncode, 0)
         self.assertNotIn("try", self.count())
-
-    def test_the_sources_run_where_they_are_asked_for(self) -> None:
-        self.answers(0, b"sources: demo 1 1\n", 1, "demo", "1", "1", TCLOCKS_PROGRAM="sources")
-        self.assertEqual(self.command("cat", TCLOCKS_PROGRAM="new")[0], 126)
 
 
 class Unproved(Folder):

@@ -24,8 +24,8 @@ def measure(name: str, settings: list[sweep.Setting], to: table.Table) -> None:
         orders.setdefault(result.setting.order(), []).append(result)
     for (_, nodes, bound), results in orders.items():
         sums = [result.sums() for result in results]
-        cells = [None if column in sweep.OF_NODES and not nodes else statistics.mean(one[column] for one in sums)
-                 for column in COLUMNS]
+        cells = [statistics.mean(one[name] for one in sums) if nodes or name not in sweep.OF_NODES else None
+                 for name in COLUMNS]
         seconds = statistics.median(float(result.seconds) for result in results)
         to.row([name, f"`nodes {nodes} {bound}`" if nodes else "`run`", *cells, seconds],
                [(result.seconds, one) for result, one in zip(results, sums)])

@@ -40,14 +40,14 @@ def counter() -> Counter | None:
     return None
 
 
-def counted(name: str, asked: Namespace, fuel: int, how: Counter) -> tuple[int, int] | None:
-    """The instructions of one worker's run with that fuel, and its turns; None where none were counted."""
+def counted(name: str, asked: Namespace, fuel: int, how: Counter) -> tuple[int, int]:
+    """The instructions of one worker's run with that fuel, and its turns; Failed where none were counted."""
     words, form = how
     command = words + [*map(str, (program.PATH, "run", 1, fuel, asked.batch))]
     ran = subprocess.run(command, input=guests.GUESTS[name](), capture_output=True)
     found = form.search(ran.stderr)
     if ran.returncode != 0 or not found:
-        return None
+        raise table.Failed("no instructions were counted")
     return int(found.group(1)), process.counts(io.BytesIO(ran.stdout))[0]
 
 
@@ -55,10 +55,10 @@ def instructions(name: str, asked: Namespace, how: Counter | None) -> tuple[floa
     """The instructions for each turn, and those of a whole run without its turns."""
     if how is None:
         return None, None
-    few_ran, many_ran = (counted(name, asked, fuel, how) for fuel in (FEW, MANY))
-    if few_ran is None or many_ran is None:
+    try:
+        (few, less), (many, more) = (counted(name, asked, fuel, how) for fuel in (FEW, MANY))
+    except table.Failed:
         return None, None
-    (few, less), (many, more) = few_ran, many_ran
     if more == less:
         return None, many
     each = (many - few) / (more - less)

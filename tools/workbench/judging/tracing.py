@@ -92,10 +92,10 @@ class Contexts:
         data = sum(sum(map(operator.ne, own, content)) for own, content in contents if own != content)
         self.counts.update(contexts=1, registers=len(registers), stack=stack, data=data)
         guarded = sum(len(self.machine.locks[lock].bytes) for lock in held)
-        package = f"; in its package {report.locks_text(held)}, {report.several(guarded, 'byte')}" * (held != ())
+        held_text = f"; in its package {report.locks_text(held)}, {report.several(guarded, 'byte')}"
         return (f"pc, {report.several(len(registers), 'register')} not 0 ({' '.join(registers)}), "
-                f"{report.several(stack, 'byte')} of stack in use, {report.several(data, 'byte')} of its own data"
-                f" changed{package}")
+                f"{report.several(stack, 'byte')} of stack in use, {report.several(data, 'byte')} of its own "
+                f"data changed{held_text if held else ''}")
 
     def before(self, block: report.Block) -> Iterator[str]:
         """What is said of a block that is about to run: of its context and of its lock, where they move

@@ -199,7 +199,7 @@ class Hall:
 
 
 def delegated(guest: model.Guest, fuel: int, workers: int, limit: int, seed: int | None = 0, version: int = 2,
-              nodes: int = 0, bound: int = 0) -> tuple[legal.Run, list[report.Block]]:
+              nodes: int = 0, bound: int = 0, of: type[Hall] = Hall) -> tuple[legal.Run, list[report.Block]]:
     """The run and its blocks that the seed stands for, which one worker alone does not look at."""
-    hall = Hall(guest, workers, fuel, limit, seed, version, nodes, bound)
+    hall = of(guest, workers, fuel, limit, seed, version, nodes, bound)
     return hall.run, hall.history()

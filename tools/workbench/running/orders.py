@@ -11,7 +11,6 @@ from __future__ import annotations
 import argparse
 import csv
 import sys
-import types
 from typing import Dict, List, Tuple
 
 from .. import limits, progress, tool
@@ -43,13 +42,11 @@ Row = Tuple[str, int, Dict[str, int]]
 
 def made(file: bytes, asked: argparse.Namespace, order: str, seed: int) -> Dict[str, int]:
     """The numbers of a run in this order."""
-    hall = (YoungestHall if order == "youngest" else delegation.Hall)(
-        model.Guest(file), asked.workers, asked.fuel, asked.batch, seed,
-        nodes=asked.nodes if order == "nodes" else 0, bound=asked.bound)
-    blocks = hall.history()
-    shape = types.SimpleNamespace(threads=len(hall.threads), guards=len(hall.home), workers=asked.workers)
+    nodes, hall = asked.nodes * (order == "nodes"), YoungestHall if order == "youngest" else delegation.Hall
+    run, blocks = delegation.delegated(model.Guest(file), asked.fuel, asked.workers, asked.batch, seed, nodes=nodes,
+                                       bound=asked.bound, of=hall)
     setting = sweep.Setting("model", asked.workers, asked.batch, 0, asked.bound, asked.fuel, 1, seed)
-    return sweep.counted(setting, shape, blocks).sums()
+    return sweep.counted(setting, run, blocks).sums()
 
 
 def picture(name: str, asked: argparse.Namespace, rows: List[Row]) -> str:
