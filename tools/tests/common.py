@@ -72,19 +72,11 @@ sys.exit(status)
 """
 
 
-def call(number: int, value: int) -> tuple[int, int, int]:
-    """addi x10,x0,value; addi x17,x0,number; ecall."""
-    return (value << 20 | 0x513, number << 20 | 0x893, 0x73)
-
-
-EXIT = (0x05D00893, 0x00000073)
-
-
-def built(code: Any, threads: tuple[int, ...], guards: int) -> bytes:
+def built(code: Any, threads: tuple[int, ...], guards: int, data: bytes = b"") -> bytes:
     """A guest's file with guards of one word; threads are the places where they enter, in words."""
     note = made.note([(made.CODE + 4 * place, 0) for place in threads],
                      [(made.DATA + 4 * lock, 4) for lock in range(guards)])
-    return made.elf(note, code, bytes(4 * guards), 4 * guards)
+    return made.elf(note, code, data or bytes(4 * guards), 4 * guards)
 
 
 def saved(name: str, content: bytes | str) -> str:

@@ -19,7 +19,7 @@ from tools.workbench.exploring import explore, rules, search, steps
 from tools.workbench.guest import guestfile, made, model
 from tools.workbench.judging import rejecting
 from tools.workbench.running import delegation, program
-from .common import (ANSWERS, COMPILER, COURSE, EXIT, GUESTS, NAMES, ONE, ROOT, TEMPORARY, Case, built, call,
+from .common import (ANSWERS, COMPILER, COURSE, GUESTS, NAMES, ONE, ROOT, TEMPORARY, Case, built,
                      elf, run, saved)
 
 
@@ -131,8 +131,7 @@ def plain(file: bytes, fuel: int) -> tuple[dict[rules.End, int], int]:
 
 def of_two(one: list[int], other: list[int], data: list[int]) -> bytes:
     """The file of two threads with a lock for each word of the data."""
-    return made.elf(made.note([(made.CODE, 0), (made.CODE + 4 * len(one), 0)], [(made.DATA + 4 * lock, 4) for lock in range(len(data))]),
-                    one + other, b"".join(word.to_bytes(4, "little") for word in data), 4 * len(data))
+    return built(one + other, (0, len(one)), len(data), b"".join(word.to_bytes(4, "little") for word in data))
 
 
 def searched(file: bytes, fuel: int, **more: Any) -> search.Search:
@@ -405,7 +404,7 @@ class Rules(Case):
 
 TORN = "lock 3 word 0 != lock 3 word 1"
 # Two threads that each count one up under the lock, but look at the word in a section of its own before.
-LOST = (0x000202B7, *call(1, 0), 0x0002A383, *call(2, 0), *call(1, 0), 0x00138393, 0x0072A023, *call(2, 0), *EXIT)
+LOST = made.code(f"{BEGIN} LOCK 0; lw 7 5 0; UNLOCK 0; LOCK 0; addi 7 7 1; sw 7 5 0; UNLOCK 0; EXIT")
 
 
 def folder(name: str, files: dict[str, Any]) -> str:
@@ -420,7 +419,8 @@ class Grade(Case):
         """Their names are those of the files; one is right, one loses an addition, one is refused, and one has
         no such lock."""
         place = folder("students", {"anna/guest.elf": built(ONE, (0, 0), 1), "ben/guest.elf": built(LOST, (0, 0), 1),
-                                    "cleo.elf": built(ONE, (0, 0), 1)[:100], "dora.elf": built(EXIT, (0,), 0)})
+                                    "cleo.elf": built(ONE, (0, 0), 1)[:100],
+                                    "dora.elf": built(made.code("EXIT"), (0,), 0)})
         kept = TEMPORARY / "kept"
         said = self.well("grade", place, "--never", "lock 0 word 0 != 2", "--reach", "lock 0 sections == 2",
                          "--keep", str(kept))

@@ -10,12 +10,12 @@ from subprocess import CompletedProcess
 from typing import Any
 
 from tools.workbench import limits
-from tools.workbench.guest import guestfile, model
+from tools.workbench.guest import guestfile, made, model
 from tools.workbench.judging import rejecting
 from tools.workbench.reports import report, spoil
 from tools.workbench.running import delegation, program
-from .common import (BY_HAND, BY_HAND_V1, DOCS, EXIT, FACTS, FINISHED, GUEST, GUESTS, NAMES, ONE, PCS,
-                     PROFILE, TEMPORARY, Case, built, call, elf, history, process, run, saved, told)
+from .common import (BY_HAND, BY_HAND_V1, DOCS, FACTS, FINISHED, GUEST, GUESTS, NAMES, ONE, PCS,
+                     PROFILE, TEMPORARY, Case, built, elf, history, process, run, saved, told)
 
 
 class ByHand(Case):
@@ -94,22 +94,21 @@ class ByHand(Case):
         self.assertNotIn(beyond.encode(), done.stderr)
 
 
-LOCKED = {lock: call(1, lock) + call(2, lock) + EXIT for lock in (0, 1)}
-BOTH = call(1, 0) + call(1, 1) + call(2, 1) + call(2, 0) + EXIT
-DOZE = (ONE[0],) + call(1, 0) + call(3, 3) + call(2, 0) + EXIT
+NESTED = made.code("LOCK 1; UNLOCK 1; EXIT; LOCK 0; UNLOCK 0; EXIT; LOCK 0; LOCK 1; UNLOCK 1; UNLOCK 0; EXIT")
+DOZE = made.code(f"lui 5 {made.DATA}; LOCK 0; SLEEP 3; UNLOCK 0; EXIT")
 
 
 class OnPaper(Case):
     """Histories with nested locks, sleeps and unlocks out of order, whose blocks are known."""
 
-    def finished(self, code: tuple[int, ...], entries: tuple[int, ...], guards: int, lines: str) -> str:
+    def finished(self, code: list[int], entries: tuple[int, ...], guards: int, lines: str) -> str:
         """The report of a history by as many workers as threads."""
         words = f"finish --workers {len(entries)} --batch 4 --fuel 100"
         return self.well(words, saved("paper.elf", built(code, entries, guards)), given=lines)
 
     def test_nested_delegation(self) -> None:
         """Thread 2 is adopted with lock 0 by worker 1, shipped with it to lock 1, and adopted by worker 0."""
-        text = self.finished(LOCKED[1] + LOCKED[0] + BOTH, (0, 8, 16), 2, told("nested"))
+        text = self.finished(NESTED, (0, 8, 16), 2, told("nested"))
         picture = self.well("draw", "-", "--text", given=text)
         self.assertIn("thread 2      sAAO  .", picture)
         self.assertIn("\n          0         10\n", picture)
@@ -120,12 +119,12 @@ class OnPaper(Case):
                   "released it in block 2 and runs", said)
 
     def test_sleep_inside_a_section(self) -> None:
-        text = self.finished(DOZE + ONE, (0, len(DOZE)), 1, told("sleep"))
+        text = self.finished([*DOZE, *ONE], (0, len(DOZE)), 1, told("sleep"))
         self.assertIn("data 00020000 01000000", text)
         self.assertIn("asleep with lock 0 held", self.well("draw", "-", given=text))
 
     def test_unlock_out_of_order(self) -> None:
-        code = call(1, 0) + call(1, 1) + call(2, 0) + call(2, 1) + EXIT
+        code = made.code("LOCK 0; LOCK 1; UNLOCK 0; UNLOCK 1; EXIT")
         done = run("simulate", saved("paper.elf", built(code, (0,), 2)), "1", "100", "4")
         self.says(told("unlocks").strip(), done)
 
@@ -134,7 +133,7 @@ class Cuts(Case):
     """A thread without an end, and one that ends at once: 4,096 turns are a block, and the worker goes on."""
 
     def setUp(self) -> None:
-        self.guest = saved("spin.elf", built((0x0000006F, *EXIT), (0, 1), 0))
+        self.guest = saved("spin.elf", built(made.code("jal 0 0; EXIT"), (0, 1), 0))
         self.options = ("--workers", "2", "--fuel", "6000")
 
     def judged(self, lines: str) -> CompletedProcess[bytes]:
@@ -229,7 +228,7 @@ class Answers(Case):
 
     def test_an_owner(self) -> None:
         """Thread 0 sleeps with lock 0, and thread 1 runs on from its LOCK."""
-        file = built(DOZE + ONE, (0, len(DOZE)), 1)
+        file = built([*DOZE, *ONE], (0, len(DOZE)), 1)
         self.assertEqual(len(file), 304)
         lines = told("owner")
         self.assertEqual(answer("replay", file, (2, 100, 4), lines), (6, "rejected 4 3 Owner\n"))

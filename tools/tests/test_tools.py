@@ -13,11 +13,11 @@ import unittest
 from subprocess import CompletedProcess
 
 from tools.workbench import limits
-from tools.workbench.guest import guestfile, model, sources
+from tools.workbench.guest import guestfile, made, model, sources
 from tools.workbench.judging import legal, tracing
 from tools.workbench.reports import report
-from .common import (COMPILER, EXIT, FACTS, FINISHED, GUEST, GUESTS, NAMES, ONE, PROFILE, ROOT, TEMPORARY,
-                     Case, built, call, elf, history, process, run, saved, told)
+from .common import (COMPILER, FACTS, FINISHED, GUEST, GUESTS, NAMES, ONE, PROFILE, ROOT, TEMPORARY,
+                     Case, built, elf, history, process, run, saved, told)
 
 
 class Explanations(Case):
@@ -90,7 +90,7 @@ class Tables(Case):
 
     def test_one_worker_moves_nothing(self) -> None:
         """Two locks, held together, by one thread: five blocks of 2, 3, 4, 3 and 2 turns."""
-        code = (*call(1, 0), *call(1, 1), *call(2, 0), *call(2, 1), *EXIT)
+        code = made.code("LOCK 0; LOCK 1; UNLOCK 0; UNLOCK 1; EXIT")
         text = run("simulate", saved("paper.elf", built(code, (0,), 2)), "1", "100", "4").stdout
         lock = "lock {} sections 1 taken 1 adopted 0 granted 0 longest 0 changes 0 home 0\n"
         self.assertEqual(self.well("summary - --profile", given=text), "tclocks profile 1\n" + lock.format(0)

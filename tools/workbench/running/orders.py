@@ -43,8 +43,8 @@ Row = Tuple[str, int, Dict[str, int]]
 def made(file: bytes, asked: argparse.Namespace, order: str, seed: int) -> Dict[str, int]:
     """The numbers of a run in this order."""
     nodes, hall = asked.nodes * (order == "nodes"), YoungestHall if order == "youngest" else delegation.Hall
-    run, blocks = delegation.delegated(model.Guest(file), asked.fuel, asked.workers, asked.batch, seed, nodes=nodes,
-                                       bound=asked.bound, of=hall)
+    run, blocks = delegation.delegated(model.Guest(file), asked.fuel, asked.workers, asked.batch, seed,
+                                       nodes=nodes, bound=asked.bound, of=hall)
     setting = sweep.Setting("model", asked.workers, asked.batch, 0, asked.bound, asked.fuel, 1, seed)
     return sweep.counted(setting, run, blocks).sums()
 
