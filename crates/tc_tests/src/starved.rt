@@ -1,9 +1,8 @@
 //! Runs to which memory is refused in their middle. A gate takes all memory that there is, in pieces
 //! to which nobody writes, so that the host has to give next to none of it.
 
-use crate::guests::{SMALLEST_REPORT, built, code_of};
-use crate::histories::exited;
-use crate::ran::{CALM, check_run, run_at};
+use crate::ran::run_at;
+use guest_code::file::{built, plain};
 use std::alloc::{AllocError, Global};
 use std::process::Abort;
 use std::sync::atomic::{AtomicU32, Ordering};
@@ -87,15 +86,22 @@ impl<R: Wait + Sync> Gate for Hungry<'_, R> {
     }
 }
 
-/// A guest of eight threads that have sections under one lock until their fuel is spent: four add to
-/// a word there, and four sleep. Behind the words of a section stands jal x0,-36.
-fn endless<R: Abort>(rt: &R, alloc: Global) -> Result<Vec<u8>, AllocError> {
-    let text = "DATA LOCK_0 ADD UNLOCK_0 fddff06f LOCK_0 00100513 00300893 ECALL UNLOCK_0 fddff06f";
-    let code = code_of(rt, alloc, text)?;
-    let (adds, sleeps) = ((0, 0), (11, 0));
-    let threads = [adds, sleeps, adds, sleeps, adds, sleeps, adds, sleeps];
-    built(rt, alloc, &code, &threads, 1)
+impl<'a, R: Wait + Sync> Hungry<'a, R> {
+    fn new(rt: &'a R, alloc: Global, pieces: Vec<Vec<u8>>) -> Self {
+        Hungry {
+            rt,
+            alloc,
+            blocks: AtomicU32::new(0),
+            pieces: Mutex::new(pieces),
+        }
+    }
 }
+
+/// The code of threads that have sections under one lock until their fuel is spent: those from word 0
+/// on add to a word there, and those from word 11 on sleep. Behind the words of a section stands
+/// jal x0,-36.
+const ENDLESS: &str =
+    "DATA LOCK_0 ADD UNLOCK_0 fddff06f LOCK_0 00100513 00300893 ECALL UNLOCK_0 fddff06f";
 
 /// A run to which memory is refused in its middle ends, and nothing is written.
 fn check_refused<R: Threads + Wait + Sync + Abort>(
@@ -103,14 +109,9 @@ fn check_refused<R: Threads + Wait + Sync + Abort>(
     alloc: Global,
     words: &str,
 ) -> Result<(), AllocError> {
-    let file = endless(rt, alloc)?;
-    let gate = Hungry {
-        rt,
-        alloc,
-        blocks: AtomicU32::new(0),
-        pieces: Mutex::new(Vec::with_capacity(alloc, MOST_PIECES)?),
-    };
-    let ran = run_at(rt, alloc, words, &file, &CALM, &gate)?;
+    let file = built(alloc, ENDLESS, "0 11 0 11 0 11 0 11", 1)?;
+    let gate = Hungry::new(rt, alloc, Vec::with_capacity(alloc, MOST_PIECES)?);
+    let ran = run_at(rt, alloc, words, &file, &gate)?;
     ran.check(rt, Status::OutOfMemory, "");
     assert!(rt; gate.blocks.load(Ordering::SeqCst) > PLENTY);
     Ok(())
@@ -128,18 +129,36 @@ fn refused_memory_ends_a_run(rt: HostRuntime) -> Result<(), Fail> {
     Ok(())
 }
 
+/// The only history of the smallest guest, with fuel 100, and its report.
+const EXITS: &str = "block 0 thread 0 turns 2 held - kind start worker 0 pc 00010054 end exit\n";
+
+const SMALLEST_REPORT: &str = "\
+tclocks 2
+guest threads 1 guards 0
+run workers 1 fuel 100 batch 0
+block 0 thread 0 turns 2 held - kind start worker 0 pc 00010054 end exit
+thread 0 exit fuel 98 pc 00010058
+x0 00000000 00000000 80000000 00000000 00000000 00000000 00000000 00000000
+x8 00000000 00000000 00000000 00000000 00000000 00000000 00000000 00000000
+x16 00000000 0000005d 00000000 00000000 00000000 00000000 00000000 00000000
+x24 00000000 00000000 00000000 00000000 00000000 00000000 00000000 00000000
+end
+";
+
 /// What is read takes memory as it comes: where there is no piece of 64 MiB, a short history is replayed
 /// all the same, though one of 256 MiB might have come.
 #[test]
 fn a_short_input_takes_little_memory(rt: HostRuntime) -> Result<(), Fail> {
     let alloc = rt.alloc();
-    let bytes = exited(alloc)?;
+    let mut bytes = plain(alloc, "EXIT")?;
+    bytes.extend_from_slice(EXITS.as_bytes())?;
     let mut pieces = Vec::with_capacity(alloc, MOST_PIECES)?;
     for size in &SIZES[..10] {
         take_pieces(alloc, &mut pieces, *size);
     }
     assert!(rt; Vec::<u8>::with_capacity(alloc, 0x0400_0000).is_err());
-    let told = (Status::Done, SMALLEST_REPORT);
-    check_run(&rt, alloc, "replay 92 1 100 0", &bytes, &CALM, told)?;
+    let gate = Hungry::new(&rt, alloc, pieces);
+    let ran = run_at(&rt, alloc, "replay 92 1 100 0", &bytes, &gate)?;
+    ran.check(&rt, Status::Done, SMALLEST_REPORT);
     Ok(())
 }

@@ -1,0 +1,60 @@
+//! Lines that say what the file is.
+//!
+//! - `smallest`: the smallest guest's file. `plain CODE`: the same with other code.
+//! - `locks N`, `threads T ..`, and then `built CODE`: a built file. The code is that of guest_code.
+//! - `empty`, `bytes DIGITS`: no bytes, and further bytes, by pairs of digits of base 16.
+//! - `after LINE`: the line behind the file. `history`: the blocks of the text that was kept.
+//! - `length N`: the file has so many bytes, of which those past its end are zeros.
+
+use crate::row::{Row, number};
+use guest_code::file::{built, plain};
+use guest_code::lines::history_in;
+use std::alloc::{AllocError, Global};
+
+/// Appends the bytes of these digits.
+fn push_bytes(file: &mut Vec<u8>, digits: &str) -> Result<(), AllocError> {
+    let mut rest = digits;
+    for _ in 0..digits.len() / 2 {
+        let Some((pair, behind)) = rest.split_at_checked(2) else {
+            return Ok(());
+        };
+        file.push(u8::from_str_radix(pair, 16).unwrap_or(0))?;
+        rest = behind;
+    }
+    Ok(())
+}
+
+/// Appends the history that is in a report.
+fn push_history(alloc: Global, file: &mut Vec<u8>, report: &str) -> Result<(), AllocError> {
+    let history = history_in(alloc, report)?;
+    file.extend_from_slice(history.as_bytes())
+}
+
+/// Changes the bytes of the file. Whether the line is one of these.
+fn changes(alloc: Global, row: &mut Row, key: &str, rest: &str) -> Result<bool, AllocError> {
+    match key {
+        "empty" => row.file.clear(),
+        "bytes" => push_bytes(&mut row.file, rest)?,
+        "length" => row.file.resize(number(rest), 0)?,
+        "history" => push_history(alloc, &mut row.file, &row.kept)?,
+        "after" => {
+            row.file.extend_from_slice(rest.as_bytes())?;
+            row.file.push(b'\n')?;
+        }
+        _ => return Ok(false),
+    }
+    Ok(true)
+}
+
+/// Takes a line that says what the file is. Whether the line is one of these.
+pub fn makes(alloc: Global, row: &mut Row, key: &str, rest: &str) -> Result<bool, AllocError> {
+    match key {
+        "smallest" => row.file = plain(alloc, "EXIT")?,
+        "plain" => row.file = plain(alloc, rest)?,
+        "locks" => row.locks = number(rest),
+        "threads" => row.threads = String::from_str(alloc, rest)?,
+        "built" => row.file = built(alloc, rest, &row.threads, row.locks)?,
+        _ => return changes(alloc, row, key, rest),
+    }
+    Ok(true)
+}

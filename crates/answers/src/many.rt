@@ -1,0 +1,112 @@
+//! Lines that ask the last words again, for each call of a source or a sink that may fail.
+//!
+//! - `sources N`: a source gives up to N bytes in a call. Where it fails in a call to which it comes,
+//!   nothing is written, with the status `read-fault`: the last call finds nothing left.
+//! - `sinks N STATUS`: a sink takes up to N bytes in a call. Where it fails in one, it has as many pieces
+//!   of what the same words write without a fault as calls came before, with this status.
+
+use crate::answer::status_of;
+use crate::ask::Tally;
+use crate::outside::{Outside, Ran, run};
+use crate::row::{Row, number, split};
+use std::alloc::{AllocError, Global};
+use std::sync::Wait;
+use std::thread::Threads;
+use tc_main::status::Status;
+
+/// Asks with a source that gives up to `most` bytes in a call, and fails in this call.
+fn source<R: Threads + Wait + Sync>(
+    rt: &R,
+    alloc: Global,
+    row: &Row,
+    tally: &mut Tally,
+    most: usize,
+    call: usize,
+) -> Result<(), AllocError> {
+    let outside = Outside {
+        most,
+        failing_read: Some(call as u64),
+        ..row.outside
+    };
+    let ran = run(rt, alloc, &row.words, &row.file, &outside)?;
+    if call <= row.file.len().div_ceil(most.max(1)) {
+        let agrees = ran.status == Status::ReadFault && ran.written.is_empty();
+        return tally.count(agrees, "sources");
+    }
+    tally.compare(alloc, row, ran, "sources", 1)
+}
+
+/// Asks with a sink that takes up to `most` bytes in a call, and fails in this call. Without a fault the
+/// words are answered as `whole` is.
+fn sink<R: Threads + Wait + Sync>(
+    rt: &R,
+    alloc: Global,
+    row: &Row,
+    whole: &Ran,
+    fault: (usize, usize, &str),
+) -> Result<bool, AllocError> {
+    let (most, call, cut) = fault;
+    let outside = Outside {
+        most,
+        failing_write: Some(call as u64),
+        ..row.outside
+    };
+    let ran = run(rt, alloc, &row.words, &row.file, &outside)?;
+    let all = whole.written.as_slice();
+    match all.get(..call.saturating_mul(most)) {
+        Some(front) if front.len() < all.len() => {
+            Ok(ran.written.as_slice() == front && status_of(alloc, ran.status)?.as_str() == cut)
+        }
+        _ => Ok(ran.written.as_slice() == all && ran.status == whole.status),
+    }
+}
+
+/// Asks for each call of a source.
+fn sources<R: Threads + Wait + Sync>(
+    rt: &R,
+    alloc: Global,
+    row: &Row,
+    tally: &mut Tally,
+    most: usize,
+) -> Result<(), AllocError> {
+    for call in 0..row.file.len().saturating_add(2) {
+        source(rt, alloc, row, tally, most, call)?;
+    }
+    Ok(())
+}
+
+/// Asks for each call of a sink.
+fn sinks<R: Threads + Wait + Sync>(
+    rt: &R,
+    alloc: Global,
+    row: &Row,
+    tally: &mut Tally,
+    most: usize,
+    cut: &str,
+) -> Result<(), AllocError> {
+    let whole = run(rt, alloc, &row.words, &row.file, &row.outside)?;
+    let calls = whole.written.len().div_ceil(most.max(1));
+    for call in 0..=calls.saturating_add(1) {
+        let agrees = sink(rt, alloc, row, &whole, (most, call, cut))?;
+        tally.count(agrees, "sinks")?;
+    }
+    Ok(())
+}
+
+/// Takes a line that asks for each call. Whether the line is one of these.
+pub fn asks<R: Threads + Wait + Sync>(
+    rt: &R,
+    alloc: Global,
+    row: &Row,
+    tally: &mut Tally,
+    line: (&str, &str),
+) -> Result<bool, AllocError> {
+    let (key, rest) = line;
+    let (most, cut) = split(rest);
+    match key {
+        "sources" => sources(rt, alloc, row, tally, number(most))?,
+        "sinks" => sinks(rt, alloc, row, tally, number(most), cut)?,
+        _ => return Ok(false),
+    }
+    Ok(true)
+}
