@@ -9,7 +9,7 @@ use std::alloc::{AllocError, Global};
 use std::str::from_utf8;
 use std::sync::Wait;
 use std::thread::Threads;
-use tc_io::{MemSink, MemSource, Word};
+use tc_io::{MemSink, MemSource, Sink, Source, Word};
 use tc_main::gate::Open;
 use tc_main::status::Status;
 use tc_main::top::tclocks;
@@ -97,6 +97,17 @@ fn failing(alloc: Global, call: Option<u64>) -> Result<Vec<u64>, AllocError> {
     Ok(calls)
 }
 
+/// The top call. What it promises is not used here: the table says what must come of it.
+fn top<R: Threads + Wait + Sync, S: Source, K: Sink>(
+    rt: &R,
+    alloc: Global,
+    words: &[Word],
+    source: &mut S,
+    sink: &mut K,
+) -> Status {
+    tclocks(rt, alloc, words, source, sink, &Open)
+}
+
 /// Runs the program on the words and a file, with this source and sink.
 pub fn run<R: Threads + Wait + Sync>(
     rt: &R,
@@ -111,7 +122,7 @@ pub fn run<R: Threads + Wait + Sync>(
     let mut source = MemSource::new(file, most, failing(alloc, outside.failing_read)?);
     let calls = failing(alloc, outside.failing_write)?;
     let mut sink = MemSink::new(alloc, outside.room, most, calls)?;
-    let status = tclocks(rt, alloc, &words, &mut source, &mut sink, &Open);
+    let status = top(rt, alloc, &words, &mut source, &mut sink);
     let written = Vec::from_slice(alloc, sink.written())?;
     Ok(Ran { status, written })
 }
