@@ -5,7 +5,7 @@ use std::process::Abort;
 use std::str::from_utf8;
 use std::sync::Wait;
 use std::thread::Threads;
-use tc_io::{MemSink, MemSource, Word};
+use tc_io::{MemSink, MemSource, Sink, Source, Word};
 use tc_main::gate::Gate;
 use tc_main::status::Status;
 use tc_main::top::tclocks;
@@ -58,6 +58,18 @@ fn words_of(alloc: Global, written: &str) -> Result<Vec<Word>, AllocError> {
     Ok(words)
 }
 
+/// The top call. What it promises is not used here: tests look at what comes of it.
+fn top<R: Threads + Wait + Sync, S: Source, K: Sink, G: Gate>(
+    rt: &R,
+    alloc: Global,
+    words: &[Word],
+    source: &mut S,
+    sink: &mut K,
+    gate: &G,
+) -> Status {
+    tclocks(rt, alloc, words, source, sink, gate)
+}
+
 /// Runs the program on the words and a file, by workers that tell a gate how far they are. No call of
 /// the source or of the sink fails.
 pub(crate) fn run_at<R: Threads + Wait + Sync, G: Gate>(
@@ -71,7 +83,7 @@ pub(crate) fn run_at<R: Threads + Wait + Sync, G: Gate>(
     let file = Vec::from_slice(alloc, file)?;
     let mut source = MemSource::new(file, 4096, Vec::new(alloc));
     let mut sink = MemSink::new(alloc, 524_288, 4096, Vec::new(alloc))?;
-    let status = tclocks(rt, alloc, &words, &mut source, &mut sink, gate);
+    let status = top(rt, alloc, &words, &mut source, &mut sink, gate);
     let written = Vec::from_slice(alloc, sink.written())?;
     Ok(Ran { status, written })
 }
