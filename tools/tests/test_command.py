@@ -26,7 +26,6 @@ USAGE = re.search(r'let line =\s+"(usage: [^"]*)\\n"', (ROOT / "crates/tc_main/s
 FORMS = ("run 1 1 0", "run 8 65536 256", "run 4 20000 8", "gen 1", "gen 2000", "demo 1 1", "demo 2000 8",
          "nodes 1 0 1 1 0", "nodes 8 256 8 65536 256", "nodes 2 4 4 2000 8", "replay 1 1 1 0", "replay 1048576 8 65536 256",
          "profile 1 1 1 0", "profile 1048576 8 65536 256")
-# Lines of the program's own table of words that ask for nothing: `_` is a blank in a word, and `?` a byte that no text has.
 ROWS = re.findall(r"^answer usage\n\| usage: .*\n((?:ask.*\n)+)\n", (ROOT / "crates/answers/stdin").read_text(), re.M)[0]
 WRONG = [[word.encode().replace(b"_", b" ").replace(b"?", b"\xff") for word in line.split()]
          for line in (*(row[3:] for row in ROWS.splitlines()), "run -1 1 0", "run 1 1 99999999999999999999", "-h", "gen ٣")]

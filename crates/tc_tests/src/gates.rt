@@ -58,7 +58,20 @@ fn two_workers_claim_a_thread_each(rt: HostRuntime) -> Result<(), Fail> {
     Ok(())
 }
 
-/// So are those of a demonstration, whose summary is as on one worker.
+/// Four threads are claimed by four workers: none sits out while the others work.
+#[test]
+fn each_of_four_workers_claims_a_thread(rt: HostRuntime) -> Result<(), Fail> {
+    let alloc = rt.alloc();
+    let file = built(alloc, "EXIT", "0 0 0 0", 0)?;
+    let gate = Usher::new(&rt, alloc, Hold::Crew);
+    let ran = run_at(&rt, alloc, "run 4 100 4", &file, &gate)?;
+    ran.check_done(&rt);
+    assert!(rt; gate.was_in_time());
+    assert_eq!(rt; blocks(ran.text()), Some(4));
+    Ok(())
+}
+
+/// Two threads of a demonstration are claimed by two workers. Its summary is as on one worker.
 #[test]
 fn two_workers_run_a_demonstration(rt: HostRuntime) -> Result<(), Fail> {
     let gate = Usher::new(&rt, rt.alloc(), Hold::Claim);

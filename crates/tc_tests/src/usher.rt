@@ -21,6 +21,8 @@ pub(crate) enum Hold {
     Claim,
     /// Where a block released lock 0, until a thread is shipped.
     Release,
+    /// Where each of four workers claims its first thread, until all have.
+    Crew,
     /// Each of three workers claims a thread. Worker 0 then runs its thread's section, and ends it only
     /// when worker 1 and after it worker 2 have shipped theirs.
     InTurn,
@@ -34,6 +36,7 @@ impl Hold {
             (Hold::Release, Point::Committed(_, End::Unlocked(0))) => {
                 has_shipped(reports, 0) || has_shipped(reports, 1)
             }
+            (Hold::Crew, Point::Claimed(_)) => have_claimed(reports, 4),
             (Hold::InTurn, _) => comes_in_turn(reports, worker, point),
             _ => true,
         }
@@ -43,7 +46,7 @@ impl Hold {
 /// Whether one of three workers may go on at the point, where they come in turn.
 fn comes_in_turn(reports: &[Report], worker: u32, point: Point) -> bool {
     match (worker, point) {
-        (0, Point::Claimed(_)) => have_claimed(reports),
+        (0, Point::Claimed(_)) => have_claimed(reports, 3),
         (0, Point::Committed(_, End::Unlocked(0))) => has_shipped(reports, 2),
         (1, Point::Claimed(_)) => is_released(reports),
         (2, Point::Claimed(_)) => has_shipped(reports, 1),
@@ -74,11 +77,14 @@ pub(crate) fn claimed_by(reports: &[Report], worker: u32) -> Option<u32> {
     None
 }
 
-/// Whether each of the three workers has claimed a thread.
-fn have_claimed(reports: &[Report]) -> bool {
-    claimed_by(reports, 0).is_some()
-        && claimed_by(reports, 1).is_some()
-        && claimed_by(reports, 2).is_some()
+/// Whether each of so many workers has claimed a thread.
+fn have_claimed(reports: &[Report], workers: u32) -> bool {
+    for worker in 0..workers {
+        if claimed_by(reports, worker).is_none() {
+            return false;
+        }
+    }
+    true
 }
 
 /// Whether a worker has shipped a thread.
