@@ -7,6 +7,7 @@ use Rattle.tc_elf.specs.Loading.{subset}
 use Rattle.tc_elf.specs.Refused.{refusal_name, refusal_number}
 use Rattle.tc_elf.specs.declared.refusal.Refusal.{Refusal}
 use Rattle.tc_elf.specs.Shown.{Shown}
+use Rattle.tc_journal.specs.History.{IsHistory}
 use Rattle.tc_journal.specs.Line.{history_text}
 use Rattle.tc_journal.specs.declared.block.Block.{Block}
 use Rattle.tc_mutex_spec.specs.Blocks.{IsComplete, end_after}
@@ -15,7 +16,7 @@ use Rattle.tc_context.specs.View.{PackageView, bare}
 use Rattle.tc_law.specs.Lawful.{Lawful}
 use Rattle.tc_law.proofs.Lawful.{short_history}
 use Rattle.tc_replay.specs.Rejected.{IsCompleteRun}
-use Rattle.tc_replay.specs.Taken.{CheckerView, HasTaken}
+use Rattle.tc_replay.specs.Taken.{CheckerView, HasTaken, HasWhatItTook}
 use Rattle.tc_replay.specs.declared.reason.Rejected.{Rejected}
 use Rattle.tc_report.specs.Legal.{results_after}
 use Rattle.tc_report.specs.Report.{head_text, report_text, tail_text}
@@ -59,20 +60,22 @@ asked_wrong asked size o bytes OutOfMemory is of wrong = tt
 
 -- ---- what is told
 
-module _ (v : CheckerView) (image : Shown) (o : Options) (h : List Block) (of : v.image ≡ image) (made : v.terms ≡ o) where
-  pub law_of : (packages : List PackageView) (states : List LockView) → Lawful v.image v.terms.fuel v.terms.limit h (map bare packages) (map kept states) → Lawful image o.fuel o.limit h (map bare packages) (map kept states)
-  law_of packages states law = subst (λ (x : Shown × Options). Lawful x.0 x.1.fuel x.1.limit h (map bare packages) (map kept states)) (λ i. (of i, made i)) law
+module _ (v : CheckerView) (image : Shown) (o : Options) (h : List Block) (of : v.image ≡ image) (made : v.terms ≡ o) (taken : v.taken ≡ h) where
+  pub law_of : (packages : List PackageView) (states : List LockView) → Lawful v.image v.terms.fuel v.terms.limit v.taken (map bare packages) (map kept states) → Lawful image o.fuel o.limit h (map bare packages) (map kept states)
+  law_of packages states law = subst (λ (x : Shown × Options × List Block). Lawful x.0 x.1.fuel x.1.limit x.2 (map bare packages) (map kept states)) (λ i. (of i, made i, taken i)) law
 
 pub report_told : (image : Shown) (o : Options) (h : List Block) (packages : List PackageView) (states : List LockView) → Lawful image o.fuel o.limit h (map bare packages) (map kept states)
     → IsComplete image (end_after image o.fuel h) → report_text image o (results_after image o.fuel h) ≡ head_text image o ++ history_text h ++ tail_text image packages states
 report_told image o h packages states law complete = told image o.fuel h packages states (outcome image o h packages states law complete) o
 
 -- the blocks that a checker has taken are no more than a profile counts, and each can be added to one
-pub few_taken : (v : CheckerView) (h : List Block) → HasTaken v h → length h < 2 ^ 32
-few_taken v h taken = short_history v.image v.terms.fuel v.terms.limit h (map bare v.packages) taken.taken.0 taken.taken.1.limits taken.taken.1.law
+pub few_taken : (v : CheckerView) (h : List Block) → HasWhatItTook v → HasTaken v h → length h < 2 ^ 32
+few_taken v h keeps taken =
+    let has = keeps taken.on in
+    subst (λ (l : List Block). length l < 2 ^ 32) taken.taken (short_history v.image v.terms.fuel v.terms.limit v.taken (map bare v.packages) has.0 has.1.limits has.1.law)
 
-pub addable_taken : (v : CheckerView) (image : Shown) (o : Options) (h : List Block) → HasTaken v h → IsCompleteRun image o h → CanAllBeAdded image h
-addable_taken v image o h taken run = addable image o.fuel h (end_after image o.fuel h) run.tells taken.taken.1.law.history
+pub addable_taken : (v : CheckerView) (image : Shown) (o : Options) (h : List Block) → HasWhatItTook v → HasTaken v h → IsCompleteRun image o h → CanAllBeAdded image h
+addable_taken v image o h keeps taken run = addable image o.fuel h (end_after image o.fuel h) run.tells (subst (λ (l : List Block). IsHistory l) taken.taken (keeps taken.on).1.law.history)
 
 -- ---- what is read
 

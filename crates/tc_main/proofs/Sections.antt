@@ -28,10 +28,10 @@ use Rattle.tc_mutex_spec.proofs.Holds.{can_thread}
 use Rattle.tc_mutex_spec.proofs.Local.{after_mutex}
 use Rattle.tc_mutex_spec.proofs.Progress.{IsSane, start_sane, reached, turns_sum, first_turns}
 use Rattle.tc_mutex_spec.proofs.Replaying.{record_takes}
-use Rattle.tc_profile.specs.Profile.{lock_profile}
+use Rattle.tc_profile.specs.Profile.{lock_profile, one_if}
 use Rattle.tc_profile.proofs.Counting.{kept-le}
 use Rattle.tc_profile.proofs.Growing.{none_begun}
-use Rattle.tc_profile.proofs.Numbers.{one_if, kept-front}
+use Rattle.tc_profile.proofs.Numbers.{kept-front, sections_are_begun}
 
 -- ---- one turn
 
@@ -152,7 +152,7 @@ sections_are image fuel h m k threads most_fuel few told =
     let turns : length image.entries * (fuel + 1) ≤ MAX_THREADS * (MAX_FUEL + 1) = mul-le (length image.entries) (fuel + 1) MAX_THREADS (MAX_FUEL + 1) threads (omega (arith, most_fuel)) in
     let blocks : length (of_lock h k) ≤ length h = kept-le (λ (b : Block). has b.held k) h in
     let begun : length (filter (begins k) (of_lock h k)) ≤ length (of_lock h k) = kept-le (begins k) (of_lock h k) in
-    omega (arith, c.sections, c.short, first_turns image fuel, turns, blocks, begun)
+    omega (arith, sections_are_begun h k, c.sections, c.short, first_turns image fuel, turns, blocks, begun)
 
 -- each block is of a thread that there is
 pub threads_known : (image : Shown) (seen h : List Block) (from m : State) → TellsAfter image seen from h m → All (λ (b : Block). b.thread < length image.entries) h

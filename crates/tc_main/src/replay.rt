@@ -6,7 +6,6 @@ ghost use Rattle.tc_elf.specs.Loading.{subset};
 ghost use Rattle.tc_elf.specs.declared.limits.TheConstants.{MAX_FILE};
 ghost use Rattle.tc_journal.specs.Reading.{IsTextOf};
 ghost use Rattle.tc_journal.specs.Told.{told};
-ghost use Rattle.tc_profile.specs.Stands.{StandsFor};
 ghost use Rattle.tc_profile.specs.Text.{profile_text};
 ghost use Rattle.tc_main.specs.Accepted.{CanAllBeAdded, IsReplayed};
 ghost use Rattle.tc_report.specs.Legal.{results_after};
@@ -123,9 +122,9 @@ pub(crate) fn replay_report(
 fn profile_of(alloc: Global, image: &Image, history: &[Block]) -> Result<Profile, AllocError>
     requires few { length history.now < 2 ^ 32 }
     requires blocks { CanAllBeAdded image.now history.now }
-    ensures stands { IfOk result (λ p. StandsFor p history.now) }
-    ensures threads { IfOk result (λ p. length p.threads ≡ length image.now.entries) }
-    ensures locks { IfOk result (λ p. length p.locks ≡ length image.now.guards) }
+    ensures history { IfOk result (λ p. p.history ≡ history.now) }
+    ensures threads { IfOk result (λ p. p.threads ≡ length image.now.entries) }
+    ensures locks { IfOk result (λ p. p.locks ≡ length image.now.guards) }
 {
     let mut profile = Profile::new(alloc, image)?;
     for block in history {
@@ -144,6 +143,7 @@ pub(crate) fn replay_profile(alloc: Global, replay: Replay) -> Result<Vec<u8>, A
         history,
         checker,
     } = replay;
+    checker.keeps();
     drop(checker);
     let profile = profile_of(alloc, &image, &history)?;
     profile_text(alloc, &image, &profile)

@@ -1,28 +1,29 @@
 -- Counts over a list that grows at its end.
-use Rattle.std.proofs.Common.{◌≡◌, ℕ, suc, ◌+◌, ◌≤◌, ◌-◌, max, Bool, true, false, List, [], ◌∷◌, ◌++◌, map, length, length-append, refl, sym, ap, ◌∙◌, arith, append_assoc, append-nil}
-use Rattle.std.specs.Prelude.{Some, slice_get, filter, if◌then◌else◌}
-use Rattle.std.proofs.lemmas.List.{map_push}
+use Rattle.std.proofs.Common.{◌≡◌, ℕ, suc, ◌+◌, ◌≤◌, ◌-◌, ◌&&◌, nat_lt, max, Bool, true, false, List, [], ◌∷◌, ◌++◌, drop, length, length-append, refl, sym, ap, ◌∙◌, arith, append_assoc, append-nil}
+use Rattle.std.specs.Prelude.{Option, Some, None, slice_get, filter, if◌then◌else◌}
+use Rattle.std.proofs.lemmas.Bool.Decides.{nat_tests}
 use Rattle.std.proofs.lemmas.List.Elements.{filter-append}
-use Rattle.tc_journal.specs.Batch.{begins, is_adopted, run_after, run_from, run_of}
+use Rattle.tc_journal.specs.Batch.{begins, is_adopted, run_after, run_from}
 use Rattle.tc_journal.specs.declared.block.Block.{Block}
-use Rattle.tc_profile.specs.Profile.{last_in, placed_after, placed, at_place, count_of, greatest, streak_behind, longest_in}
+use Rattle.tc_profile.specs.Profile.{Placed, changes_behind, greatest, is_other, one_if, placed_behind, each_placed}
+use Rattle.tc_profile.specs.Tally.{last_in}
 
 -- the last thing of a list with one more
 at_end : {A : Type 0} (xs : List A) (x : A) → slice_get (xs ++ x ∷ []) (length xs) ≡ Some x
 at_end [] x = refl
 at_end (y ∷ xs) x = at_end xs x
 
-pub last_in-push : {A : Type 0} (xs : List A) (x : A) → last_in (xs ++ x ∷ []) ≡ Some x
-last_in-push xs x = ap (slice_get (xs ++ x ∷ [])) (let e : length (xs ++ x ∷ []) - 1 ≡ length xs = omega (arith, length-append xs (x ∷ [])) in e) ∙ at_end xs x
+pub last-push : {A : Type 0} (xs : List A) (x : A) → slice_get (xs ++ x ∷ []) (length (xs ++ x ∷ []) - 1) ≡ Some x
+last-push xs x = ap (slice_get (xs ++ x ∷ [])) (let e : length (xs ++ x ∷ []) - 1 ≡ length xs = omega (arith, length-append xs (x ∷ [])) in e) ∙ at_end xs x
 
 -- what passes a test, with one more
 pub filter-push : {A : Type 0} (test : A → Bool) (xs : List A) (x : A) → filter test (xs ++ x ∷ []) ≡ filter test xs ++ (if test x then x ∷ [] else [])
 filter-push test xs x = filter-append test xs (x ∷ [])
 
-pub kept-push : {A : Type 0} (test : A → Bool) (xs : List A) (x : A) → length (filter test (xs ++ x ∷ [])) ≡ length (filter test xs) + (if test x then 1 else 0)
+pub kept-push : {A : Type 0} (test : A → Bool) (xs : List A) (x : A) → length (filter test (xs ++ x ∷ [])) ≡ length (filter test xs) + one_if (test x)
 kept-push test xs x = ap length (filter-push test xs x) ∙ by (test x)
   where
-    by : (v : Bool) → length (filter test xs ++ (if v then x ∷ [] else [])) ≡ length (filter test xs) + (if v then 1 else 0)
+    by : (v : Bool) → length (filter test xs ++ (if v then x ∷ [] else [])) ≡ length (filter test xs) + one_if v
     by true = length-append (filter test xs) (x ∷ [])
     by false = length-append (filter test xs) []
 
@@ -34,29 +35,67 @@ kept-le test (x ∷ xs) = by (test x) (kept-le test xs)
     by true le = omega (arith, le)
     by false le = omega (arith, le)
 
--- ---- each thing with those before it
+-- the same from the second thing on
+pub later_kept-push : {A : Type 0} (test : A → Bool) (xs : List A) (x : A) → length (filter test (drop 1 (xs ++ x ∷ []))) ≡ length (filter test (drop 1 xs)) + one_if (nat_lt 0 (length xs) && test x)
+later_kept-push test [] x = refl
+later_kept-push test (y ∷ xs) x =
+    let some : nat_lt 0 (length (y ∷ xs)) ≡ true = grind (arith, nat_tests) in
+    kept-push test xs x ∙ ap (λ v. length (filter test xs) + one_if (v && test x)) (sym some)
 
-placed_after-push : {A : Type 0} (seen xs : List A) (x : A) → placed_after seen (xs ++ x ∷ []) ≡ placed_after seen xs ++ (seen ++ xs, x) ∷ []
-placed_after-push seen [] x = ap (λ s. (s, x) ∷ []) (sym (append-nil seen))
-placed_after-push seen (y ∷ xs) x =
-    ap (λ ps. (seen, y) ∷ ps) (placed_after-push (seen ++ y ∷ []) xs x
-    ∙ ap (λ s. placed_after (seen ++ y ∷ []) xs ++ (s, x) ∷ []) (append_assoc seen (y ∷ []) xs))
+pub later_kept-le : {A : Type 0} (test : A → Bool) (xs : List A) → length (filter test (drop 1 xs)) ≤ length xs
+later_kept-le test [] = omega arith
+later_kept-le test (x ∷ xs) = omega (arith, kept-le test xs)
 
-pub placed-push : {A : Type 0} (xs : List A) (x : A) → placed (xs ++ x ∷ []) ≡ placed xs ++ (xs, x) ∷ []
-placed-push xs x = placed_after-push [] xs x
+-- ---- each block with those before it
 
-placed_after-length : {A : Type 0} (seen xs : List A) → length (placed_after seen xs) ≡ length xs
-placed_after-length seen [] = refl
-placed_after-length seen (x ∷ xs) = ap suc (placed_after-length (seen ++ x ∷ []) xs)
+-- a block behind these
+abbrev pub put : List Block → Block → Placed
+put before b = record { before = before; block = b }
 
-pub placed-length : {A : Type 0} (xs : List A) → length (placed xs) ≡ length xs
-placed-length xs = placed_after-length [] xs
+placed_behind-push : (before bs : List Block) (b : Block) → placed_behind before (bs ++ b ∷ []) ≡ placed_behind before bs ++ put (before ++ bs) b ∷ []
+placed_behind-push before [] b = ap (λ l. put l b ∷ []) (sym (append-nil before))
+placed_behind-push before (x ∷ bs) b =
+    ap (λ ps. put before x ∷ ps) (placed_behind-push (before ++ x ∷ []) bs b
+    ∙ ap (λ l. placed_behind (before ++ x ∷ []) bs ++ put l b ∷ []) (append_assoc before (x ∷ []) bs))
 
-pub count_of-push : {A : Type 0} (test : List A → A → Bool) (xs : List A) (x : A) → count_of test (xs ++ x ∷ []) ≡ count_of test xs + (if test xs x then 1 else 0)
-count_of-push test xs x = ap (λ ps. length (filter (at_place test) ps)) (placed-push xs x) ∙ kept-push (at_place test) (placed xs) (xs, x)
+pub each_placed-push : (h : List Block) (b : Block) → each_placed (h ++ b ∷ []) ≡ each_placed h ++ put h b ∷ []
+each_placed-push h b = placed_behind-push [] h b
 
-pub count_of-le : {A : Type 0} (test : List A → A → Bool) (xs : List A) → count_of test xs ≤ length xs
-count_of-le test xs = omega (arith, kept-le (at_place test) (placed xs), placed-length xs)
+placed_behind-length : (before bs : List Block) → length (placed_behind before bs) ≡ length bs
+placed_behind-length before [] = refl
+placed_behind-length before (b ∷ bs) = ap suc (placed_behind-length (before ++ b ∷ []) bs)
+
+pub each_placed-length : (h : List Block) → length (each_placed h) ≡ length h
+each_placed-length h = placed_behind-length [] h
+
+-- ---- numbers that change
+
+abbrev last_behind : Option ℕ → List ℕ → Option ℕ
+last_behind before [] = before
+last_behind before (n ∷ ns) = last_behind (Some n) ns
+
+last_behind-is : (before : Option ℕ) (n : ℕ) (ns : List ℕ) → last_behind before (n ∷ ns) ≡ slice_get (n ∷ ns) (length ns)
+last_behind-is before n [] = refl
+last_behind-is before n (m ∷ ns) = last_behind-is (Some n) m ns
+
+last_behind-none : (ns : List ℕ) → last_behind None ns ≡ last_in ns
+last_behind-none [] = refl
+last_behind-none (n ∷ ns) = last_behind-is None n ns ∙ ap (slice_get (n ∷ ns)) (let e : length ns ≡ length (n ∷ ns) - 1 = omega arith in e)
+
+changes_behind-push : (before : Option ℕ) (ns : List ℕ) (n : ℕ) → changes_behind before (ns ++ n ∷ []) ≡ changes_behind before ns + one_if (is_other (last_behind before ns) n)
+changes_behind-push before [] n = omega arith
+changes_behind-push before (m ∷ ns) n = omega (arith, changes_behind-push (Some m) ns n)
+
+pub changes_in-push : (ns : List ℕ) (n : ℕ) → changes_behind None (ns ++ n ∷ []) ≡ changes_behind None ns + one_if (is_other (last_in ns) n)
+changes_in-push ns n = changes_behind-push None ns n ∙ ap (λ o. changes_behind None ns + one_if (is_other o n)) (last_behind-none ns)
+
+one_if-le : (v : Bool) → one_if v ≤ 1
+one_if-le true = omega arith
+one_if-le false = omega arith
+
+pub changes_behind-le : (before : Option ℕ) (ns : List ℕ) → changes_behind before ns ≤ length ns
+changes_behind-le before [] = omega arith
+changes_behind-le before (n ∷ ns) = omega (arith, changes_behind-le (Some n) ns, one_if-le (is_other before n))
 
 -- ---- streaks
 
@@ -72,31 +111,6 @@ run_from-le lock n (b ∷ bs) = omega (arith, run_from-le lock (run_after lock n
 max_assoc : (a b c : ℕ) → max a (max b c) ≡ max (max a b) c
 max_assoc a b c = omega arith
 
-greatest-push : (ns : List ℕ) (n : ℕ) → greatest (ns ++ n ∷ []) ≡ max (greatest ns) n
+pub greatest-push : (ns : List ℕ) (n : ℕ) → greatest (ns ++ n ∷ []) ≡ max (greatest ns) n
 greatest-push [] n = (let e : max n 0 ≡ max 0 n = omega arith in e)
 greatest-push (m ∷ ns) n = ap (max m) (greatest-push ns n) ∙ max_assoc m (greatest ns) n
-
-pub longest_in-push : (lock : ℕ) (bs : List Block) (b : Block) → longest_in lock (bs ++ b ∷ []) ≡ max (longest_in lock bs) (run_of lock (bs ++ b ∷ []))
-longest_in-push lock bs b =
-    ap (λ ps. greatest (map (at_place (streak_behind lock)) ps)) (placed-push bs b)
-    ∙ ap greatest (map_push (at_place (streak_behind lock)) (placed bs) (bs, b))
-    ∙ greatest-push (map (at_place (streak_behind lock)) (placed bs)) (run_of lock (bs ++ b ∷ []))
-
--- the longest streak of these blocks, which stand behind others
-abbrev longest_after : ℕ → List Block → List Block → ℕ
-longest_after lock seen bs = greatest (map (at_place (streak_behind lock)) (placed_after seen bs))
-
-longest_after-ge : (lock : ℕ) (seen bs : List Block) → run_of lock (seen ++ bs) ≤ max (longest_after lock seen bs) (run_of lock seen)
-longest_after-ge lock seen [] = (let e : run_of lock (seen ++ []) ≡ run_of lock seen = ap (run_of lock) (append-nil seen) in omega arith)
-longest_after-ge lock seen (x ∷ xs) =
-    let rest = longest_after-ge lock (seen ++ x ∷ []) xs in
-    let same : run_of lock (seen ++ x ∷ xs) ≡ run_of lock ((seen ++ x ∷ []) ++ xs) = ap (run_of lock) (sym (append_assoc seen (x ∷ []) xs)) in
-    let most : run_of lock (seen ++ x ∷ xs) ≤ max (max (run_of lock (seen ++ x ∷ [])) (longest_after lock (seen ++ x ∷ []) xs)) (run_of lock seen) = omega arith in
-    most
-
--- the streak at the end is no longer than the longest
-pub longest_in-ge : (lock : ℕ) (bs : List Block) → run_of lock bs ≤ longest_in lock bs
-longest_in-ge lock bs =
-    let most = longest_after-ge lock [] bs in
-    let same : run_of lock bs ≤ max (longest_in lock bs) 0 = most in
-    omega arith

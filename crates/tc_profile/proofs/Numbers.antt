@@ -1,10 +1,10 @@
 -- What the numbers of a profile are to one another, and to the history.
-use Rattle.std.proofs.Common.{◌≡◌, ℕ, zero, suc, ◌+◌, ◌<◌, ◌≤◌, ◌==◌, ◌&&◌, nat_lt, Bool, true, false, not, List, [], ◌∷◌, ◌++◌, map, length, refl, sym, ap, ◌∙◌, arith}
+use Rattle.std.proofs.Common.{◌≡◌, ℕ, zero, suc, ◌+◌, ◌<◌, ◌≤◌, ◌==◌, ◌&&◌, nat_lt, Bool, true, false, not, List, [], ◌∷◌, ◌++◌, length, refl, sym, ap, subst, ◌∙◌, arith, append-nil}
 use Rattle.std.specs.Prelude.{Option, Some, None, All, option_map, filter, sum_by, if◌then◌else◌}
 use Rattle.std.specs.List.{range_with_len}
 use Rattle.std.proofs.lemmas.Bool.{and_parts}
 use Rattle.std.proofs.lemmas.Bool.Decides.{nat_tests}
-use Rattle.std.proofs.lemmas.List.Elements.{All-head, All-tail}
+use Rattle.std.proofs.lemmas.List.Elements.{All-cons, All-head, All-nil, All-tail}
 use Rattle.std.proofs.lemmas.List.Sums.{sum_by-cons}
 use Rattle.tc_isa.specs.Sets.{has}
 use Rattle.tc_journal.specs.Batch.{is_section, is_adopted, is_lock, is_only, top_below, unlocks, begins, last_of, may_adopt, may_begin, may_go_on, may_follow, allows_of, run_of, Obeys, ObeysAfter}
@@ -12,11 +12,10 @@ use Rattle.tc_journal.specs.History.{of_lock, of_thread}
 use Rattle.tc_journal.specs.declared.block.Block.{Block}
 use Rattle.tc_journal.specs.declared.block.Kind.{Kind}
 use Rattle.tc_journal.specs.declared.block.Kind.TheVariants.{Start, On, Taken, Adopted, Granted}
-use Rattle.tc_journal.proofs.Batching.{run_from-more}
-use Rattle.tc_profile.specs.Profile.{placed_after, at_place, greatest, worker_of, is_other, is_taken, is_granted, is_change, streak_behind, lock_profile, thread_profile}
-
-abbrev pub one_if : Bool → ℕ
-one_if v = if v then 1 else 0
+use Rattle.tc_journal.proofs.Batching.{of_lock-more, run_from-more}
+use Rattle.tc_profile.specs.Profile.{Placed, changes, each_placed, is_change, is_granted, is_other, is_taken, longest, lock_profile, of_kind, one_if, placed_behind, sections_placed, streak_with, thread_profile, worker_of}
+use Rattle.tc_profile.proofs.Counting.{put}
+use Rattle.tc_profile.proofs.Growing.{none_begun}
 
 pub kept-front : {A : Type 0} (test : A → Bool) (x : A) (xs : List A) → length (filter test (x ∷ xs)) ≡ one_if (test x) + length (filter test xs)
 kept-front test x xs = by (test x)
@@ -25,7 +24,10 @@ kept-front test x xs = by (test x)
     by true = omega arith
     by false = omega arith
 
--- ---- kinds
+-- ---- sections
+
+abbrev begun_at : ℕ → Placed → Bool
+begun_at lock p = begins lock p.block
 
 -- a block that begins a section is of such a kind
 begun_is : (lock : ℕ) (b : Block) → begins lock b ≡ true → is_section b.kind ≡ true
@@ -35,19 +37,20 @@ begun_is lock b e = go (is_section b.kind) e
     go true e = refl
     go false e = absurd (cc)
 
-abbrev begun_in : ℕ → List Block → List Block
-begun_in lock bs = filter (begins lock) bs
-
--- how many of the sections are of such a kind
-abbrev kind_in : (Kind → Bool) → ℕ → List Block → ℕ
-kind_in is_kind lock bs = length (filter (λ (b : Block). is_kind b.kind) (begun_in lock bs))
-
-kind_front : (is_kind : Kind → Bool) (lock : ℕ) (b : Block) (bs : List Block) → kind_in is_kind lock (b ∷ bs) ≡ (if begins lock b then one_if (is_kind b.kind) else 0) + kind_in is_kind lock bs
-kind_front is_kind lock b bs = by (begins lock b)
+-- as many sections as blocks of the lock that begin one
+counted_from : (lock : ℕ) (before bs : List Block) → length (filter (begun_at lock) (placed_behind before bs)) ≡ length (filter (begins lock) (of_lock bs lock))
+counted_from lock before [] = refl
+counted_from lock before (b ∷ bs) = by (has b.held lock) refl (kept-front (begun_at lock) (put before b) (placed_behind (before ++ b ∷ []) bs) ∙ ap (λ n. one_if (begins lock b) + n) (counted_from lock (before ++ b ∷ []) bs))
   where
-    by : (v : Bool) → length (filter (λ (c : Block). is_kind c.kind) (if v then b ∷ begun_in lock bs else begun_in lock bs)) ≡ (if v then one_if (is_kind b.kind) else 0) + kind_in is_kind lock bs
-    by true = kept-front (λ (c : Block). is_kind c.kind) b (begun_in lock bs)
-    by false = omega arith
+    by : (v : Bool) → has b.held lock ≡ v → length (filter (begun_at lock) (placed_behind before (b ∷ bs))) ≡ one_if (begins lock b) + length (filter (begins lock) (of_lock bs lock))
+        → length (filter (begun_at lock) (placed_behind before (b ∷ bs))) ≡ length (filter (begins lock) (if v then b ∷ of_lock bs lock else of_lock bs lock))
+    by true e all = all ∙ sym (kept-front (begins lock) b (of_lock bs lock))
+    by false e all = all ∙ ap (λ v. one_if v + length (filter (begins lock) (of_lock bs lock))) (none_begun lock b e) ∙ omega arith
+
+pub sections_are_begun : (h : List Block) (lock : ℕ) → (lock_profile h lock).sections ≡ length (filter (begins lock) (of_lock h lock))
+sections_are_begun h lock = counted_from lock [] h
+
+-- ---- kinds
 
 one_kind : (k : Kind) → is_section k ≡ true → one_if (is_taken k) + one_if (is_adopted k) + one_if (is_granted k) ≡ 1
 one_kind Start e = absurd (cc)
@@ -56,18 +59,26 @@ one_kind Taken e = refl
 one_kind Adopted e = refl
 one_kind Granted e = refl
 
-kinds_of : (lock : ℕ) (bs : List Block) → kind_in is_taken lock bs + kind_in is_adopted lock bs + kind_in is_granted lock bs ≡ length (begun_in lock bs)
+kind_front : (is_kind : Kind → Bool) (p : Placed) (ps : List Placed) → of_kind is_kind (p ∷ ps) ≡ one_if (is_kind p.block.kind) + of_kind is_kind ps
+kind_front is_kind p ps = kept-front (λ (q : Placed). is_kind q.block.kind) p ps
+
+abbrev all_kinds : List Placed → ℕ
+all_kinds ps = of_kind is_taken ps + of_kind is_adopted ps + of_kind is_granted ps
+
+-- with this one at the front, where it is so
+abbrev with_first : Bool → Placed → List Placed → List Placed
+with_first v p ps = if v then p ∷ ps else ps
+
+kinds_front : (lock : ℕ) (p : Placed) (ps : List Placed) (v : Bool) → begun_at lock p ≡ v → all_kinds ps ≡ length ps → all_kinds (with_first v p ps) ≡ length (with_first v p ps)
+kinds_front lock p ps true e rest = omega (arith, rest, one_kind p.block.kind (begun_is lock p.block e), kind_front is_taken p ps, kind_front is_adopted p ps, kind_front is_granted p ps)
+kinds_front lock p ps false e rest = rest
+
+kinds_of : (lock : ℕ) (ps : List Placed) → all_kinds (filter (begun_at lock) ps) ≡ length (filter (begun_at lock) ps)
 kinds_of lock [] = refl
-kinds_of lock (b ∷ bs) =
-    let each : (if begins lock b then one_if (is_taken b.kind) else 0) + (if begins lock b then one_if (is_adopted b.kind) else 0) + (if begins lock b then one_if (is_granted b.kind) else 0) ≡ one_if (begins lock b) = by (begins lock b) (begun_is lock b) in
-    omega (arith, each, kind_front is_taken lock b bs, kind_front is_adopted lock b bs, kind_front is_granted lock b bs, kept-front (begins lock) b bs, kinds_of lock bs)
-  where
-    by : (v : Bool) → (v ≡ true → is_section b.kind ≡ true) → (if v then one_if (is_taken b.kind) else 0) + (if v then one_if (is_adopted b.kind) else 0) + (if v then one_if (is_granted b.kind) else 0) ≡ one_if v
-    by true f = one_kind b.kind (f refl)
-    by false f = refl
+kinds_of lock (p ∷ ps) = kinds_front lock p (filter (begun_at lock) ps) (begun_at lock p) refl (kinds_of lock ps)
 
 pub kinds : (h : List Block) (lock : ℕ) → (lock_profile h lock).taken + (lock_profile h lock).adopted + (lock_profile h lock).granted ≡ (lock_profile h lock).sections
-kinds h lock = kinds_of lock (of_lock h lock)
+kinds h lock = kinds_of lock (each_placed h)
 
 -- ---- adopted sections
 
@@ -102,53 +113,71 @@ streak_few lock limit seen b follows few =
     by true false begun adopted = omega arith
     by false a begun adopted = few
 
-longest_few : (lock limit : ℕ) (seen bs : List Block) → ObeysAfter lock limit seen bs → run_of lock seen ≤ limit → greatest (map (at_place (streak_behind lock)) (placed_after seen bs)) ≤ limit
-longest_few lock limit seen [] obeys few = omega arith
-longest_few lock limit seen (b ∷ bs) obeys few =
-    let here = streak_few lock limit seen b obeys.0 few in
-    omega (arith, here, longest_few lock limit (seen ++ b ∷ []) bs obeys.1 here)
+-- what each section of a lock is whose blocks obey the limit: the streak with it is in the limit, and an adopted one is no change
+record IsInLimit (lock limit : ℕ) (p : Placed) : Type 0 where
+  pub streak : streak_with lock p ≤ limit
+  pub change : is_adopted p.block.kind ≡ true → is_change lock p ≡ false
+
+module _ (lock limit : ℕ) (before : List Block) (b : Block) (ps : List Placed) where
+  abbrev with_it : List Block
+  with_it = of_lock (before ++ b ∷ []) lock
+
+  begun_in_limit : (v : Bool) → begins lock b ≡ v → run_of lock with_it ≤ limit → may_follow lock limit (of_lock before lock) b ≡ true → All (IsInLimit lock limit) ps → All (IsInLimit lock limit) (with_first v (put before b) ps)
+  begun_in_limit true is here follows rest =
+      All-cons (IsInLimit lock limit) (put before b) ps (record { streak = here; change = λ adopted. (adopted_behind lock limit (of_lock before lock) b follows is adopted).1 }) rest
+  begun_in_limit false is here follows rest = rest
+
+  one_in_limit : (bs : List Block) (v : Bool) → has b.held lock ≡ v → run_of lock (of_lock before lock) ≤ limit → ObeysAfter lock limit (of_lock before lock) (if v then b ∷ of_lock bs lock else of_lock bs lock)
+      → (ObeysAfter lock limit with_it (of_lock bs lock) → run_of lock with_it ≤ limit → All (IsInLimit lock limit) ps) → All (IsInLimit lock limit) (with_first (begins lock b) (put before b) ps)
+  one_in_limit bs true e few obeys rest =
+      let same : with_it ≡ of_lock before lock ++ b ∷ [] = of_lock-more before b lock true e in
+      let here : run_of lock with_it ≤ limit = subst (λ l. run_of lock l ≤ limit) (sym same) (streak_few lock limit (of_lock before lock) b obeys.0 few) in
+      begun_in_limit (begins lock b) refl here obeys.0 (rest (subst (λ l. ObeysAfter lock limit l (of_lock bs lock)) (sym same) obeys.1) here)
+  one_in_limit bs false e few obeys rest =
+      let same : with_it ≡ of_lock before lock = of_lock-more before b lock false e ∙ append-nil (of_lock before lock) in
+      subst (λ v. All (IsInLimit lock limit) (with_first v (put before b) ps)) (sym (none_begun lock b e))
+      (rest (subst (λ l. ObeysAfter lock limit l (of_lock bs lock)) (sym same) obeys) (subst (λ l. run_of lock l ≤ limit) (sym same) few))
+
+sections_in_limit : (lock limit : ℕ) (before bs : List Block) → ObeysAfter lock limit (of_lock before lock) (of_lock bs lock) → run_of lock (of_lock before lock) ≤ limit → All (IsInLimit lock limit) (filter (begun_at lock) (placed_behind before bs))
+sections_in_limit lock limit before [] obeys few = All-nil (IsInLimit lock limit)
+sections_in_limit lock limit before (b ∷ bs) obeys few =
+    one_in_limit lock limit before b (filter (begun_at lock) (placed_behind (before ++ b ∷ []) bs)) bs (has b.held lock) refl few obeys (sections_in_limit lock limit (before ++ b ∷ []) bs)
+
+in_limit : (h : List Block) (lock limit : ℕ) → Obeys lock limit (of_lock h lock) → All (IsInLimit lock limit) (sections_placed h lock)
+in_limit h lock limit obeys = sections_in_limit lock limit [] h obeys (omega arith)
+
+longest_few : (lock limit : ℕ) (ps : List Placed) → All (IsInLimit lock limit) ps → longest lock ps ≤ limit
+longest_few lock limit [] all = omega arith
+longest_few lock limit (p ∷ ps) all = omega (arith, (All-head (IsInLimit lock limit) p ps all).streak, longest_few lock limit ps (All-tail (IsInLimit lock limit) p ps all))
 
 pub longest_within : (h : List Block) (lock limit : ℕ) → Obeys lock limit (of_lock h lock) → (lock_profile h lock).longest ≤ limit
-longest_within h lock limit obeys = longest_few lock limit [] (of_lock h lock) obeys (omega arith)
+longest_within h lock limit obeys = longest_few lock limit (sections_placed h lock) (in_limit h lock limit obeys)
 
 -- ---- changes of worker
 
-change_or : (v c a : Bool) → (v ≡ false → c ≡ false) → (v ≡ true → a ≡ true → c ≡ false) → one_if c + (if v then one_if a else 0) ≤ one_if v
-change_or false false a f g = omega arith
-change_or false true a f g = absurd (let e = f refl in cc)
-change_or true false true f g = omega arith
-change_or true false false f g = omega arith
-change_or true true true f g = absurd (let e = g refl refl in cc)
-change_or true true false f g = omega arith
-
-change_few : (lock limit : ℕ) (seen : List Block) (b : Block) → may_follow lock limit seen b ≡ true → one_if (is_change lock seen b) + (if begins lock b then one_if (is_adopted b.kind) else 0) ≤ one_if (begins lock b)
-change_few lock limit seen b follows = change_or (begins lock b) (is_change lock seen b) (is_adopted b.kind) none own
+change_or : (c a : Bool) → (a ≡ true → c ≡ false) → one_if c + one_if a ≤ 1
+change_or false true f = omega arith
+change_or c false f = by c
   where
-    none : begins lock b ≡ false → is_change lock seen b ≡ false
-    none out = ap (λ v. v && nat_lt 0 (length (begun_in lock seen)) && is_other (option_map worker_of (last_of seen)) b.worker) out
+    by : (c : Bool) → one_if c + 0 ≤ 1
+    by true = omega arith
+    by false = omega arith
+change_or true true f = absurd (let e = f refl in cc)
 
-    not_other : (v w x : Bool) → x ≡ false → (v && w && x) ≡ false
-    not_other true true x e = e
-    not_other true false x e = refl
-    not_other false w x e = refl
+changes_few : (lock limit : ℕ) (ps : List Placed) → All (IsInLimit lock limit) ps → length (filter (is_change lock) ps) + of_kind is_adopted ps ≤ length ps
+changes_few lock limit [] all = omega arith
+changes_few lock limit (p ∷ ps) all =
+    let here = change_or (is_change lock p) (is_adopted p.block.kind) (All-head (IsInLimit lock limit) p ps all).change in
+    omega (arith, here, kept-front (is_change lock) p ps, kind_front is_adopted p ps, changes_few lock limit ps (All-tail (IsInLimit lock limit) p ps all))
 
-    own : begins lock b ≡ true → is_adopted b.kind ≡ true → is_change lock seen b ≡ false
-    own begun adopted = not_other (begins lock b) (nat_lt 0 (length (begun_in lock seen))) (is_other (option_map worker_of (last_of seen)) b.worker) (adopted_behind lock limit seen b follows begun adopted).1
-
-changes_few : (lock limit : ℕ) (seen bs : List Block) → ObeysAfter lock limit seen bs → length (filter (at_place (is_change lock)) (placed_after seen bs)) + kind_in is_adopted lock bs ≤ length (begun_in lock bs)
-changes_few lock limit seen [] obeys = omega arith
-changes_few lock limit seen (b ∷ bs) obeys =
-    omega (
-      arith,
-      change_few lock limit seen b obeys.0,
-      kept-front (at_place (is_change lock)) (seen, b) (placed_after (seen ++ b ∷ []) bs),
-      kind_front is_adopted lock b bs,
-      kept-front (begins lock) b bs,
-      changes_few lock limit (seen ++ b ∷ []) bs obeys.1,
-    )
+later_few : (lock : ℕ) (ps : List Placed) → changes lock ps ≤ length (filter (is_change lock) ps)
+later_few lock [] = omega arith
+later_few lock (p ∷ ps) = omega (arith, kept-front (is_change lock) p ps)
 
 pub changes_or_adopted : (h : List Block) (lock limit : ℕ) → Obeys lock limit (of_lock h lock) → (lock_profile h lock).changes + (lock_profile h lock).adopted ≤ (lock_profile h lock).sections
-changes_or_adopted h lock limit obeys = changes_few lock limit [] (of_lock h lock) obeys
+changes_or_adopted h lock limit obeys =
+    let all = sections_placed h lock in
+    omega (arith, later_few lock all, changes_few lock limit all (in_limit h lock limit obeys))
 
 -- ---- threads
 

@@ -1,5 +1,5 @@
 -- What a history shows of delegation: the numbers of each lock and each thread, as functions of the list of blocks.
-use Rattle.std.specs.Prelude.{ℕ, ◌-◌, ◌==◌, ◌&&◌, nat_lt, not, max, Bool, true, false, List, [], ◌∷◌, ◌++◌, map, filter, length, slice_get, Option, Some, None, option_map, sum_by}
+use Rattle.std.specs.Prelude.{ℕ, ◌+◌, ◌==◌, not, max, Bool, true, false, if◌then◌else◌, List, [], ◌∷◌, ◌++◌, map, filter, drop, length, Option, Some, None, option_map, sum_by}
 use Rattle.tc_journal.specs.Batch.{begins, is_adopted, run_of, last_of}
 use Rattle.tc_journal.specs.History.{of_lock, of_thread}
 use Rattle.tc_journal.specs.declared.block.Block.{Block}
@@ -8,28 +8,10 @@ use Rattle.tc_journal.specs.declared.block.Kind.TheVariants.{Start, On, Taken, A
 use Rattle.tc_profile.specs.declared.tally.LockProfile.{LockProfile}
 use Rattle.tc_profile.specs.declared.tally.ThreadProfile.{ThreadProfile}
 
--- ---- words on lists
+-- ---- words on numbers
 
--- the last thing of a list
-abbrev pub last_in : {A : Type 0} → List A → Option A
-last_in xs = slice_get xs (length xs - 1)
-
--- each thing of a list with those before it, of which these stand before the list
-abbrev pub placed_after : {A : Type 0} → List A → List A → List (List A × A)
-placed_after seen [] = []
-placed_after seen (x ∷ xs) = (seen, x) ∷ placed_after (seen ++ x ∷ []) xs
-
--- each thing of a list with those before it
-abbrev pub placed : {A : Type 0} → List A → List (List A × A)
-placed xs = placed_after [] xs
-
--- what is asked of a thing and those before it, of a thing that is placed so
-abbrev pub at_place : {A B : Type 0} → (List A → A → B) → List A × A → B
-at_place f p = f p.0 p.1
-
--- how many things of a list pass a test that sees those before each
-abbrev pub count_of : {A : Type 0} → (List A → A → Bool) → List A → ℕ
-count_of test xs = length (filter (at_place test) (placed xs))
+abbrev pub one_if : Bool → ℕ
+one_if v = if v then 1 else 0
 
 -- the greatest of some numbers, 0 of none
 abbrev pub greatest : List ℕ → ℕ
@@ -41,13 +23,14 @@ abbrev pub is_other : Option ℕ → ℕ → Bool
 is_other None n = false
 is_other (Some m) n = not (m == n)
 
--- the number is another one than the last of these
-abbrev pub differs : List ℕ → ℕ → Bool
-differs seen n = is_other (last_in seen) n
+-- how many of some numbers are other ones than the number before, where this one, if there is one, is before the first
+abbrev pub changes_behind : Option ℕ → List ℕ → ℕ
+changes_behind before [] = 0
+changes_behind before (n ∷ ns) = one_if (is_other before n) + changes_behind (Some n) ns
 
 -- how many numbers of a list, from the second on, are other ones than the number before
 abbrev pub changes_in : List ℕ → ℕ
-changes_in ns = count_of differs ns
+changes_in ns = changes_behind None ns
 
 -- ---- blocks
 
@@ -68,52 +51,74 @@ is_granted Taken = false
 is_granted Adopted = false
 is_granted Granted = true
 
+-- a block of a history, and all blocks before it
+pub record Placed : Type 0 where
+  pub before : List Block
+  pub block : Block
+
+-- each block of a list with those before it, of which these stand before the list
+abbrev pub placed_behind : List Block → List Block → List Placed
+placed_behind before [] = []
+placed_behind before (b ∷ bs) = record { before = before; block = b } ∷ placed_behind (before ++ b ∷ []) bs
+
+-- each block of a history with those before it
+abbrev pub each_placed : List Block → List Placed
+each_placed h = placed_behind [] h
+
+-- ---- a lock
+
+-- the blocks that begin a section of the lock, each with all blocks before it
+abbrev pub sections_placed : List Block → ℕ → List Placed
+sections_placed h lock = filter (λ p. begins lock p.block) (each_placed h)
+
+-- how many of some sections are of such a kind
+abbrev pub of_kind : (Kind → Bool) → List Placed → ℕ
+of_kind is_kind sections = length (filter (λ p. is_kind p.block.kind) sections)
+
+-- the streak with a section: how many Adopted sections of the lock stand in a row up to it
+abbrev pub streak_with : ℕ → Placed → ℕ
+streak_with lock p = run_of lock (of_lock (p.before ++ p.block ∷ []) lock)
+
+-- the longest streak of a lock with these sections
+abbrev pub longest : ℕ → List Placed → ℕ
+longest lock sections = greatest (map (streak_with lock) sections)
+
+-- a section began on another worker than that of the lock's block before it
+abbrev pub is_change : ℕ → Placed → Bool
+is_change lock p = is_other (option_map worker_of (last_of (of_lock p.before lock))) p.block.worker
+
+-- how many sections of a lock, from the second on, began so
+abbrev pub changes : ℕ → List Placed → ℕ
+changes lock sections = length (filter (is_change lock) (drop 1 sections))
+
 -- the worker of this block, which is the one before, or of the block itself where there is none before
 abbrev pub worker_or_own : Option Block → Block → ℕ
 worker_or_own None b = b.worker
 worker_or_own (Some before) b = before.worker
 
--- the home worker of a section that the block begins: where its thread ran last, or the block's own where it ran nowhere yet
-abbrev pub home_worker : List Block → Block → ℕ
-home_worker seen b = worker_or_own (last_of (of_thread seen b.thread)) b
+-- the home worker of a section: where its thread ran last, or the section's own where it ran nowhere yet
+abbrev pub home_worker : Placed → ℕ
+home_worker p = worker_or_own (last_of (of_thread p.before p.block.thread)) p.block
 
--- ---- a lock
+-- the home workers of some sections, in their order
+abbrev pub homes : List Placed → List ℕ
+homes sections = map home_worker sections
 
--- the blocks that begin a section of the lock
-abbrev pub sections_of : List Block → ℕ → List Block
-sections_of h lock = filter (begins lock) (of_lock h lock)
-
--- how many of the sections are of such a kind
-abbrev pub sections_as : (Kind → Bool) → List Block → ℕ → ℕ
-sections_as is_kind h lock = length (filter (λ b. is_kind b.kind) (sections_of h lock))
-
--- the streak behind a block of the lock
-abbrev pub streak_behind : ℕ → List Block → Block → ℕ
-streak_behind lock seen b = run_of lock (seen ++ b ∷ [])
-
--- the longest streak of these blocks of the lock: the greatest number of Adopted sections in a row
-abbrev pub longest_in : ℕ → List Block → ℕ
-longest_in lock bs = greatest (map (at_place (streak_behind lock)) (placed bs))
-
--- a change of worker: the block begins a section of the lock, not the first one, and its worker is not that of the lock's block before it
-abbrev pub is_change : ℕ → List Block → Block → Bool
-is_change lock seen b = begins lock b && nat_lt 0 (length (filter (begins lock) seen)) && is_other (option_map worker_of (last_of seen)) b.worker
-
--- the home workers of the lock's sections, in their order
-abbrev pub homes_of : List Block → ℕ → List ℕ
-homes_of h lock = map (at_place home_worker) (filter (at_place (λ (seen : List Block) (b : Block). begins lock b)) (placed h))
-
--- the numbers of a lock
-abbrev pub lock_profile : List Block → ℕ → LockProfile
-lock_profile h lock = record {
-  sections = length (sections_of h lock);
-  taken = sections_as is_taken h lock;
-  adopted = sections_as is_adopted h lock;
-  granted = sections_as is_granted h lock;
-  longest = longest_in lock (of_lock h lock);
-  changes = count_of (is_change lock) (of_lock h lock);
-  home = changes_in (homes_of h lock);
+-- the numbers of a lock with these sections
+abbrev pub profile_of_sections : ℕ → List Placed → LockProfile
+profile_of_sections lock sections = record {
+  sections = length sections;
+  taken = of_kind is_taken sections;
+  adopted = of_kind is_adopted sections;
+  granted = of_kind is_granted sections;
+  longest = longest lock sections;
+  changes = changes lock sections;
+  home = changes_in (homes sections);
 }
+
+-- the numbers of a lock in a history
+abbrev pub lock_profile : List Block → ℕ → LockProfile
+lock_profile h lock = profile_of_sections lock (sections_placed h lock)
 
 -- ---- a thread
 

@@ -1,35 +1,41 @@
 //! The profile of a history: its numbers, block by block.
 
-ghost use Rattle.std.specs.Prelude.{◌≡◌, ℕ, ◌<◌, ◌+◌, ◌≤◌, ◌^◌, true, length, IfOk, slice_get, option_map, List, [], ◌∷◌, ◌++◌};
+ghost use Rattle.std.specs.Prelude.{◌≡◌, ℕ, ◌<◌, ◌≤◌, ◌^◌, true, length, IfOk, slice_get, option_map, [], ◌∷◌, ◌++◌};
 ghost use Rattle.tc_isa.specs.Sets.{has};
 ghost use Rattle.tc_isa.specs.declared.limits.TheConstants.{MAX_TURNS};
-ghost use Rattle.tc_journal.specs.declared.block.Block.{Block as AnyBlock};
 ghost use Rattle.tc_profile.specs.Profile.{lock_profile, thread_profile};
 ghost use Rattle.tc_profile.specs.Tally.{added};
-ghost use Rattle.tc_profile.specs.Stands.{StandsFor};
 
 use crate::tally::{LockProfile, LockTally, ThreadProfile, ThreadTally};
 use std::alloc::{AllocError, Global};
 use std::marker::Model;
 use tc_elf::image::Image;
 use tc_journal::block::Block;
+use tc_noted::Noted;
 
 /// The numbers of all threads and all locks of a guest, for the blocks that were added. They are
-/// counted in 64 bits, which no number of 2^32 blocks goes past.
+/// counted in 64 bits, which no number of 2^32 blocks goes past. Clauses see the history of all these
+/// blocks; the program keeps the numbers alone.
 #[derive(Drop)]
 pub struct Profile {
+    history: Noted<Block>,
     threads: Vec<ThreadTally>,
     locks: Vec<LockTally>,
-    blocks: u64,
 }
 
 impl Model for Profile {
-    ghost use Rattle.tc_profile.specs.Tally.{added};
-    ghost use Rattle.tc_profile.specs.Stands.{Tallies};
+    ghost use Rattle.std.specs.Prelude.{length};
+    ghost use Rattle.tc_profile.specs.Stands.{ProfileView, StandFor};
 
-    ghost Value = { Tallies };
+    ghost Value = { ProfileView };
 
-    ghost view = { λ p. record { threads = p.threads.items; locks = p.locks.items; blocks = p.blocks } };
+    ghost view = { λ p. record {
+      history = p.history;
+      threads = length p.threads.items;
+      locks = length p.locks.items;
+    } };
+
+    ghost invariant = { λ p. StandFor p.threads.items p.locks.items p.history };
 }
 
 /// Adds a block, whose home worker is this, to the numbers of each of its locks.
@@ -50,49 +56,47 @@ fn add_to_locks(locks: &mut [LockTally], block: &Block, home: u32)
 impl Profile {
     /// The profile of no block, with the threads and locks of an image.
     pub fn new(alloc: Global, image: &Image) -> Result<Profile, AllocError>
-        ensures history { IfOk result (λ p. StandsFor p []) }
-        ensures threads { IfOk result (λ p. length p.threads ≡ length image.now.entries) }
-        ensures locks { IfOk result (λ p. length p.locks ≡ length image.now.guards) }
+        ensures history { IfOk result (λ p. p.history ≡ []) }
+        ensures threads { IfOk result (λ p. p.threads ≡ length image.now.entries) }
+        ensures locks { IfOk result (λ p. p.locks ≡ length image.now.guards) }
     {
         Ok(Profile {
+            history: Noted::nothing(),
             threads: vec![in alloc; ThreadTally::new(); image.threads() as usize]?,
             locks: vec![in alloc; LockTally::new(); image.guards() as usize]?,
-            blocks: 0,
         })
     }
 
     /// Adds a block at the end of the history. It takes no memory.
     pub fn add(&mut self, block: &Block)
-        requires few { self.old.blocks < 2 ^ 32 }
-        requires thread { block.now.thread < length self.old.threads }
-        requires locks { (k : ℕ) → has block.now.held k ≡ true → k < length self.old.locks }
+        requires few { length self.old.history < 2 ^ 32 }
+        requires thread { block.now.thread < self.old.threads }
+        requires locks { (k : ℕ) → has block.now.held k ≡ true → k < self.old.locks }
         requires turns { block.now.turns ≤ MAX_TURNS }
-        ensures history { (h : List AnyBlock) → StandsFor self.old h
-            → StandsFor self.new (h ++ block.now ∷ []) }
-        ensures threads { length self.new.threads ≡ length self.old.threads }
-        ensures locks { length self.new.locks ≡ length self.old.locks }
-        ensures blocks { self.new.blocks ≡ self.old.blocks + 1 }
+        ensures history { self.new.history ≡ self.old.history ++ block.now ∷ [] }
+        ensures threads { self.new.threads ≡ self.old.threads }
+        ensures locks { self.new.locks ≡ self.old.locks }
     {
         let t = block.thread as usize;
         let thread = self.threads[t];
         let home = thread.home(block);
         add_to_locks(&mut self.locks, block, home);
         self.threads[t] = thread.with_block(block);
-        self.blocks += 1;
+        self.history.note(block);
     }
 
-    /// The numbers of the lock with this number.
+    /// The numbers of the lock with this number, in the history.
     pub fn lock(&self, lock: u32) -> LockProfile
-        requires { lock < length self.now.locks }
-        ensures { (h : List AnyBlock) → StandsFor self.now h → result ≡ lock_profile h lock }
+        requires { lock < self.now.locks }
+        ensures { result ≡ lock_profile self.now.history lock }
     {
         self.locks[lock as usize].numbers
     }
 
-    /// The numbers of the thread with this number.
+    /// The numbers of the thread with this number, in the history.
     pub fn thread(&self, t: u32) -> ThreadProfile
-        requires { t < length self.now.threads }
-        ensures { (h : List AnyBlock) → StandsFor self.now h → result ≡ thread_profile h t }
+        requires { t < self.now.threads }
+        ensures { result ≡ thread_profile self.now.history t }
     {
         self.threads[t as usize].numbers
     }

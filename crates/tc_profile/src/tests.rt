@@ -94,12 +94,12 @@ fn is_within(held: Held, locks: u32) -> bool
 
 /// Adds a block of a thread and of locks that the image has.
 fn add<R: Abort>(rt: &R, image: &Image, profile: &mut Profile, block: &Block)
-    requires few { profile.old.blocks < 2 ^ 32 }
-    requires threads { length profile.old.threads ≡ length image.now.entries }
-    requires locks { length profile.old.locks ≡ length image.now.guards }
-    ensures blocks { profile.new.blocks ≡ profile.old.blocks + 1 }
-    ensures threads { length profile.new.threads ≡ length profile.old.threads }
-    ensures locks { length profile.new.locks ≡ length profile.old.locks }
+    requires few { length profile.old.history < 2 ^ 32 }
+    requires threads { profile.old.threads ≡ length image.now.entries }
+    requires locks { profile.old.locks ≡ length image.now.guards }
+    ensures history { length profile.new.history ≡ length profile.old.history + 1 }
+    ensures threads { profile.new.threads ≡ profile.old.threads }
+    ensures locks { profile.new.locks ≡ profile.old.locks }
 {
     assert!(rt; block.thread < image.threads());
     assert!(rt; block.turns <= MAX_TURNS);
@@ -109,11 +109,11 @@ fn add<R: Abort>(rt: &R, image: &Image, profile: &mut Profile, block: &Block)
 
 /// Adds the blocks of a history in their order.
 fn add_all<R: Abort>(rt: &R, image: &Image, profile: &mut Profile, history: &[Block])
-    requires few { profile.old.blocks + length history.now < 2 ^ 32 }
-    requires threads { length profile.old.threads ≡ length image.now.entries }
-    requires locks { length profile.old.locks ≡ length image.now.guards }
-    ensures threads { length profile.new.threads ≡ length profile.old.threads }
-    ensures locks { length profile.new.locks ≡ length profile.old.locks }
+    requires few { length profile.old.history + length history.now < 2 ^ 32 }
+    requires threads { profile.old.threads ≡ length image.now.entries }
+    requires locks { profile.old.locks ≡ length image.now.guards }
+    ensures threads { profile.new.threads ≡ profile.old.threads }
+    ensures locks { profile.new.locks ≡ profile.old.locks }
 {
     for block in history {
         add(rt, image, profile, block);

@@ -1,8 +1,6 @@
 //! The text of a profile.
 
-ghost use Rattle.std.specs.Prelude.{◌≡◌, ◌++◌, IfOk, List, OnOk, length, string_bytes};
-ghost use Rattle.tc_journal.specs.declared.block.Block.{Block as AnyBlock};
-ghost use Rattle.tc_profile.specs.Stands.{StandsFor};
+ghost use Rattle.std.specs.Prelude.{◌≡◌, ◌++◌, IfOk, OnOk, length, string_bytes};
 ghost use Rattle.tc_profile.specs.Text as text;
 
 use crate::profile::Profile;
@@ -59,9 +57,9 @@ fn push_thread(out: &mut String, number: u32, profile: ThreadProfile) -> Result<
 
 /// Writes the lines of the locks.
 fn push_locks(out: &mut String, image: &Image, profile: &Profile) -> Result<(), AllocError>
-    requires { length profile.now.locks ≡ length image.now.guards }
-    ensures { (h : List AnyBlock) → StandsFor profile.now h → OnOk result (string_bytes out.new
-        ≡ string_bytes out.old ++ text.locks_text image.now h) }
+    requires { profile.now.locks ≡ length image.now.guards }
+    ensures { OnOk result (string_bytes out.new
+        ≡ string_bytes out.old ++ text.locks_text image.now profile.now.history) }
 {
     for number in 0..image.guards() {
         let numbers = profile.lock(number);
@@ -72,9 +70,9 @@ fn push_locks(out: &mut String, image: &Image, profile: &Profile) -> Result<(), 
 
 /// Writes the lines of the threads.
 fn push_threads(out: &mut String, image: &Image, profile: &Profile) -> Result<(), AllocError>
-    requires { length profile.now.threads ≡ length image.now.entries }
-    ensures { (h : List AnyBlock) → StandsFor profile.now h → OnOk result (string_bytes out.new
-        ≡ string_bytes out.old ++ text.threads_text image.now h) }
+    requires { profile.now.threads ≡ length image.now.entries }
+    ensures { OnOk result (string_bytes out.new
+        ≡ string_bytes out.old ++ text.threads_text image.now profile.now.history) }
 {
     for number in 0..image.threads() {
         let numbers = profile.thread(number);
@@ -83,12 +81,12 @@ fn push_threads(out: &mut String, image: &Image, profile: &Profile) -> Result<()
     Ok(())
 }
 
-/// The text of a profile, which was made for the image: a line for each lock and each thread.
+/// The text of a profile, which was made for the image, of its history: a line for each lock and each
+/// thread.
 pub fn profile_text(alloc: Global, image: &Image, profile: &Profile) -> Result<Vec<u8>, AllocError>
-    requires threads { length profile.now.threads ≡ length image.now.entries }
-    requires locks { length profile.now.locks ≡ length image.now.guards }
-    ensures { (h : List AnyBlock) → StandsFor profile.now h
-        → IfOk result (λ out. out.items ≡ text.profile_text image.now h) }
+    requires threads { profile.now.threads ≡ length image.now.entries }
+    requires locks { profile.now.locks ≡ length image.now.guards }
+    ensures { IfOk result (λ out. out.items ≡ text.profile_text image.now profile.now.history) }
 {
     let mut out = String::new(alloc);
     out.push_str("tclocks profile 1\n")?;

@@ -21,7 +21,7 @@ use Rattle.tc_context.specs.View.{PackageView, bare, status_in}
 use Rattle.tc_law.specs.Lawful.{Lawful, StandsAt, owner_after}
 use Rattle.tc_law.proofs.Following.{holds_told}
 use Rattle.tc_replay.specs.Rejected.{IsFirstOn}
-use Rattle.tc_replay.specs.Taken.{AreTaken, CheckerView, HasTaken}
+use Rattle.tc_replay.specs.Taken.{AreTaken, CheckerView, HasWhatItTook}
 use Rattle.tc_replay.proofs.Keeping.{at_map}
 use Rattle.tc_replay.proofs.Starting.{was_at, pushed_at, count_more}
 use Rattle.tc_lemmas.proofs.Lists.{something_at}
@@ -80,21 +80,9 @@ ended_more packages t p so_far here over u x lt at = elim (eqb_tells u t) [
   | inr s ↦ so_far u x (let ne = s.1 in grind (arith, ne, lt)) at
 ]
 
--- a checker that has not failed has taken a history
-pub some_taken : (v w : CheckerView) → v ≡ w → (v.failed ≡ None → (h : List Block) × AreTaken v.image v.terms h v.packages v.home) → w.failed ≡ None → (h : List Block) × HasTaken w h
-some_taken v w is kept none = subst (λ (x : CheckerView). x.failed ≡ None → (h : List Block) × HasTaken x h) is (λ e. let taken = kept e in (taken.0, record { on = e; taken = taken.1 })) none
-
--- it is seen to have taken one as its parts have
-pub seen_taken : (image : Shown) (v w : CheckerView) (h : List Block) → v ≡ w → w.image ≡ image → HasTaken w h → AreTaken image v.terms h v.packages v.home
-seen_taken image v w h is same taken =
-    let was = subst (λ (x : CheckerView). HasTaken x h) (sym is) taken in
-    subst (λ (x : Shown). AreTaken x v.terms h v.packages v.home) (ap (λ (x : CheckerView). x.image) is ∙ same) was.taken
-
-pub taken_seen : (image : Shown) (v w : CheckerView) (h : List Block) → v ≡ w → w.image ≡ image → v.failed ≡ None → AreTaken image v.terms h v.packages v.home → HasTaken w h
-taken_seen image v w h is same on taken = subst (λ (x : CheckerView). HasTaken x h) is (record {
-  on = on;
-  taken = subst (λ (x : Shown). AreTaken x v.terms h v.packages v.home) (sym (ap (λ (x : CheckerView). x.image) is ∙ same)) taken;
-})
+-- a checker keeps what its parts do
+pub kept_by : (v w : CheckerView) → v ≡ w → HasWhatItTook v → HasWhatItTook w
+kept_by v w is keeps = subst HasWhatItTook is keeps
 
 pub ok_given : {T E : Type 0} (r : Result T E) (P : Type 0) → ((x : T) → r ≡ Ok x → P) → OnOk r P
 ok_given (Ok x) P f = f x refl

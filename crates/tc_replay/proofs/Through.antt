@@ -13,11 +13,12 @@ use Rattle.tc_journal.specs.History.{IsHistoryFrom, IsInOrder}
 use Rattle.tc_journal.specs.declared.block.Block.{Block}
 use Rattle.tc_mutex_spec.specs.Blocks.{IsComplete, end_after}
 use Rattle.tc_mutex_spec.proofs.ListLaws.{there}
-use Rattle.tc_context.specs.View.{bare}
+use Rattle.tc_segment.specs.View.{LockView}
+use Rattle.tc_context.specs.View.{PackageView, bare}
 use Rattle.tc_law.specs.Lawful.{StandsAt}
 use Rattle.tc_law.proofs.Lawful.{one_history}
 use Rattle.tc_replay.specs.Rejected.{AreRight, IsAccepted, IsFirstOn, IsRejected, IsWrong}
-use Rattle.tc_replay.specs.Taken.{CheckerView, HasEnded, HasTaken}
+use Rattle.tc_replay.specs.Taken.{AreTaken, CheckerView, HasEnded, HasTaken, HasWhatItTook}
 use Rattle.tc_replay.specs.declared.checking.Verdict.{Verdict}
 use Rattle.tc_replay.specs.declared.checking.Verdict.TheVariants as verdict
 use Rattle.tc_replay.specs.declared.reason.Reason.{Reason}
@@ -25,13 +26,9 @@ use Rattle.tc_replay.specs.declared.reason.Reason.TheVariants as reason
 use Rattle.tc_replay.specs.declared.reason.Rejected.{Rejected}
 use Rattle.tc_replay.proofs.Keeping.{at_map}
 
--- a checker has taken one history
-pub one_taken : (c : CheckerView) (g h : List Block) → HasTaken c g → HasTaken c h → g ≡ h
-one_taken c g h one two = one_history c.image c.terms.fuel c.terms.limit g h (map bare c.packages) one.taken.0 two.taken.0 one.taken.1.law two.taken.1.law
-
--- so whether its threads have ended is told by that one
-pub ended_behind : (c : CheckerView) (h : List Block) → HasTaken c h → IsComplete c.image (end_after c.image c.terms.fuel h) → HasEnded c
-ended_behind c h taken complete g other = subst (λ l. IsComplete c.image (end_after c.image c.terms.fuel l)) (sym (one_taken c g h other taken)) complete
+-- packages have taken one history
+pub one_taken : (image : Shown) (terms : Terms) (g h : List Block) (packages : List PackageView) (home : List (Option LockView)) → AreTaken image terms g packages home → AreTaken image terms h packages home → g ≡ h
+one_taken image terms g h packages home one two = one_history image terms.fuel terms.limit g h (map bare packages) one.0 two.0 one.1.law two.1.law
 
 -- what is read of a text is in order
 pub in_order_from : (first : ℕ) (h : List Block) → IsHistoryFrom first h → map (λ (b : Block). b.stamp) h ≡ range_with_len first (length h)
@@ -53,10 +50,8 @@ module _ (c : CheckerView) (history : List Block) (i : ℕ) (b : Block) (here : 
   long = length-take-le i history (omega (arith, lt))
 
   -- it is the number of the blocks that were taken
-  pub next_stamp : HasTaken c (take i history) → IsInOrder history → (h : List Block) → HasTaken c h → b.stamp ≡ length h
-  next_stamp taken order h other =
-      let same : h ≡ take i history = one_taken c h (take i history) other taken in
-      stamp_is history i b order here ∙ sym (ap (λ (l : List Block). length l) same ∙ long)
+  pub next_stamp : HasTaken c (take i history) → IsInOrder history → b.stamp ≡ length c.taken
+  next_stamp taken order = stamp_is history i b order here ∙ sym (ap (λ (l : List Block). length l) taken.taken ∙ long)
 
   pub take_more : take i history ++ b ∷ [] ≡ take (i + 1) history
   take_more = ap (λ x. take i history ++ x ∷ []) (sym (there history i b b here).1) ∙ sym (take-suc history i b lt) ∙ ap (λ n. take n history) (let more : suc i ≡ i + 1 = omega arith in more)
@@ -99,26 +94,26 @@ told_rejection {E = E} a b x r p q e = (let f : Ok (verdict.Rejected x) ≡ Ok (
 pub told_acceptance : {E : Type 0} (a b : Result Verdict E) (x y : CheckerView) → a ≡ Ok (verdict.Accepted x) → b ≡ Ok (verdict.Accepted y) → a ≡ b → x ≡ y
 told_acceptance {E = E} a b x y p q e = (let f : Ok (verdict.Accepted x) ≡ Ok (verdict.Accepted y) = sym p ∙ e ∙ q in cc)
 
-module _ (c : CheckerView) (image : Shown) (terms : Terms) (history : List Block) (of : c.image ≡ image) (made : c.terms ≡ terms) where
+module _ (c : CheckerView) (image : Shown) (terms : Terms) (history : List Block) (of : c.image ≡ image) (made : c.terms ≡ terms) (keeps : HasWhatItTook c) where
   right_by : (h : List Block) → HasTaken c h → AreRight image terms h
-  right_by h taken = subst (λ (x : Shown × Terms). AreRight x.0 x.1 h) (λ i. (of i, made i)) taken.taken.1.right
+  right_by h taken = subst (λ (x : Shown × Terms × List Block). AreRight x.0 x.1 x.2) (λ i. (of i, made i, taken.taken i)) (keeps taken.on).1.right
 
-  pub rejected_by : (i : ℕ) (b : Block) → StandsAt history i b → HasTaken c (take i history) → (r : Reason) → IsWrong image c.terms (take i history) (end_after image c.terms.fuel (take i history)) b r
+  pub rejected_by : (i : ℕ) (b : Block) → StandsAt history i b → HasTaken c (take i history) → (r : Reason) → IsWrong image c.terms c.taken (end_after image c.terms.fuel c.taken) b r
       → (line : ℕ) → line ≡ i + 1 → IsRejected image terms history line r
   rejected_by i b here taken r wrong line is =
       rejected_at c history i b here image terms r line is (right_by (take i history) taken)
-      (subst (λ (t : Terms). IsWrong image t (take i history) (end_after image t.fuel (take i history)) b r) made wrong)
+      (subst (λ (t : Terms × List Block). IsWrong image t.0 t.1 (end_after image t.0.fuel t.1) b r) (λ j. (made j, taken.taken j)) wrong)
 
   module _ (i : ℕ) (end : length history ≤ i) (taken : HasTaken c (take i history)) where
     pub whole_by : HasTaken c history
     whole_by = subst (HasTaken c) (take_all i history end) taken
 
-    pub cut_short : (t : ℕ) → IsFirstOn c.image (end_after c.image c.terms.fuel history) t → IsRejected image terms history (length history + 1) reason.Incomplete
+    pub cut_short : (t : ℕ) → IsFirstOn c.image (end_after c.image c.terms.fuel c.taken) t → IsRejected image terms history (length history + 1) reason.Incomplete
     cut_short t on = rejected_end image terms history (length history + 1) t refl (right_by history whole_by)
-        (subst (λ (x : Shown × Terms). IsFirstOn x.0 (end_after x.0 x.1.fuel history) t) (λ i. (of i, made i)) on)
+        (subst (λ (x : Shown × Terms × List Block). IsFirstOn x.0 (end_after x.0 x.1.fuel x.2) t) (λ j. (of j, made j, whole_by.taken j)) on)
 
     pub accepted_by : HasEnded c → IsAccepted image terms history
     accepted_by ended = record {
       right = right_by history whole_by;
-      complete = subst (λ (x : Shown × Terms). IsComplete x.0 (end_after x.0 x.1.fuel history)) (λ i. (of i, made i)) (ended history whole_by);
+      complete = subst (λ (x : Shown × Terms × List Block). IsComplete x.0 (end_after x.0 x.1.fuel x.2)) (λ j. (of j, made j, whole_by.taken j)) ended;
     }

@@ -15,10 +15,12 @@ use Rattle.tc_replay.specs.Rejected.{AreRight, IsOfThread}
 use Rattle.tc_replay.specs.Run.{grant_kind}
 use Rattle.tc_replay.specs.declared.reason.Reason.{Reason}
 
--- a checker: the packages of all threads, by number, the locks that are in none of them, and why it failed
+-- a checker: the blocks that it has taken, the packages of all threads, by number, the locks that are in none of them, and why it
+-- failed
 pub record CheckerView : Type 0 where
   pub image : Shown
   pub terms : Terms
+  pub taken : List Block
   pub packages : List PackageView
   pub home : List (Option LockView)
   pub failed : Option Reason
@@ -65,14 +67,18 @@ pub record AreAsLeft (image : Shown) (terms : Terms) (before : Before) (home : L
 abbrev pub AreTaken : Shown → Terms → List Block → List PackageView → List (Option LockView) → Type 0
 AreTaken image terms h packages home = (states : List LockView) × AreAsLeft image terms (record { history = h; packages = packages; states = states }) home
 
--- so has the checker, and it has not failed
+-- the checker has not failed, and these are the blocks that it has taken
 pub record HasTaken (c : CheckerView) (h : List Block) : Type 0 where
   pub on : c.failed ≡ None
-  pub taken : AreTaken c.image c.terms h c.packages c.home
+  pub taken : c.taken ≡ h
+
+-- what each checker keeps: its packages and its locks have taken its blocks, unless it has failed
+abbrev pub HasWhatItTook : CheckerView → Type 0
+HasWhatItTook c = c.failed ≡ None → AreTaken c.image c.terms c.taken c.packages c.home
 
 -- each thread has ended behind the blocks that the checker has taken
 abbrev pub HasEnded : CheckerView → Type 0
-HasEnded c = (h : List Block) → HasTaken c h → IsComplete c.image (end_after c.image c.terms.fuel h)
+HasEnded c = IsComplete c.image (end_after c.image c.terms.fuel c.taken)
 
 -- ---- at the start
 

@@ -11,7 +11,7 @@ ghost use Rattle.tc_context.specs.Locks.{lock_in};
 ghost use Rattle.tc_context.specs.View.{bare, status_in};
 ghost use Rattle.tc_law.specs.Lawful.{IsLimited, Lawful};
 ghost use Rattle.tc_replay.specs.Rejected.{IsWrong, IsFirstOn};
-ghost use Rattle.tc_replay.specs.Taken.{AreFreshPackages, AreTaken, HasEnded, HasTaken, lenient_state};
+ghost use Rattle.tc_replay.specs.Taken.{AreFreshPackages, AreTaken, HasEnded, HasTaken, HasWhatItTook, lenient_state};
 ghost use Rattle.tc_replay.specs.declared.reason.Reason.{Reason as AnyReason};
 ghost use Rattle.tc_replay.specs.declared.reason.Take.TheVariants.{Wrong, OutOfMemory};
 
@@ -28,16 +28,20 @@ use tc_elf::image::Image;
 use tc_exec::code::Code;
 use tc_isa::held::Held;
 use tc_journal::block::Block;
+use tc_noted::Noted;
 use tc_segment::state::LockState;
 use tc_turn::memory::Memory;
 use tc_turn::status::Status;
 
 /// A checker of one history, which takes its blocks one by one and runs each of them. Once a block
-/// was wrong, each later one is answered with the same reason.
+/// was wrong, each later one is answered with the same reason. Clauses see the blocks that were
+/// taken as a list.
 #[derive(Drop)]
 pub struct Checker {
     of: Snapshot<Image>,
     terms: Terms,
+    // The blocks that were taken, which only clauses read.
+    taken: Noted<Block>,
     // Those of all threads, in order of number.
     packages: Vec<Package>,
     // The locks that no thread holds.
@@ -48,8 +52,7 @@ pub struct Checker {
 }
 
 impl Model for Checker {
-    ghost use Rattle.std.specs.Prelude.{◌≡◌, ◌≤◌, [], List, None, length, vec_capacity};
-    ghost use Rattle.tc_journal.specs.declared.block.Block.{Block as AnyBlock};
+    ghost use Rattle.std.specs.Prelude.{◌≡◌, ◌≤◌, [], None, length, vec_capacity};
     ghost use Rattle.tc_replay.specs.Taken.{CheckerView, AreTaken};
 
     ghost Value = { CheckerView };
@@ -57,13 +60,14 @@ impl Model for Checker {
     ghost view = { λ a. record {
       image = a.of.value;
       terms = a.terms;
+      taken = a.taken;
       packages = a.packages.items;
       home = a.home;
       failed = a.failed;
     } };
 
-    ghost invariant = { λ a. (a.failed ≡ None → (h : List AnyBlock)
-        × AreTaken a.of.value a.terms h a.packages.items a.home)
+    ghost invariant = { λ a. (a.failed ≡ None
+        → AreTaken a.of.value a.terms a.taken a.packages.items a.home)
         × (a.states.items ≡ [])
         × (length a.of.value.guards ≤ vec_capacity a.states) };
 }
@@ -143,11 +147,10 @@ fn judge(
 }
 
 impl Checker {
-    /// What each checker keeps: it has taken the blocks of one history, unless it has failed. A law:
-    /// it does nothing when it is called.
+    /// What each checker keeps: its packages and its locks have taken its blocks, unless it has
+    /// failed. A law: it does nothing when it is called.
     pub fn keeps(&self)
-        ensures taken { self.now.failed ≡ None → (h : List AnyBlock) × HasTaken self.now h }
-        ensures one { (g h : List AnyBlock) → HasTaken self.now g → HasTaken self.now h → g ≡ h }
+        ensures { HasWhatItTook self.now }
     {
         let _ = &self.failed;
     }
@@ -161,6 +164,7 @@ impl Checker {
         Ok(Checker {
             of: Snapshot::of(image),
             terms,
+            taken: Noted::nothing(),
             packages: packages_at_start(alloc, image, terms)?,
             home: locks_at_start(alloc, image, terms)?,
             states: Vec::with_capacity(alloc, image.guards() as usize)?,
@@ -174,17 +178,14 @@ impl Checker {
     /// block may be given again.
     pub fn take(&mut self, image: &Image, block: &Block) -> Result<(), Take>
         requires image { self.old.image ≡ image.now }
-        requires stamp { (h : List AnyBlock) → HasTaken self.old h → block.now.stamp ≡ length h }
-        ensures taken { OnOk result ((h : List AnyBlock) → HasTaken self.old h
-            → HasTaken self.new (h ++ block.now ∷ [])) }
-        ensures wrong { (r : AnyReason) → IsErrOf result (Wrong r)
-            → (h : List AnyBlock) → HasTaken self.old h
-            → IsWrong image.now self.old.terms h
-            (end_after image.now self.old.terms.fuel h) block.now r }
+        requires stamp { self.old.failed ≡ None → block.now.stamp ≡ length self.old.taken }
+        ensures taken { OnOk result (HasTaken self.new (self.old.taken ++ block.now ∷ [])) }
+        ensures wrong { (r : AnyReason) → IsErrOf result (Wrong r) → self.old.failed ≡ None
+            → IsWrong image.now self.old.terms self.old.taken
+            (end_after image.now self.old.terms.fuel self.old.taken) block.now r }
         ensures failed { (r : AnyReason) → IsErrOf result (Wrong r) → self.new.failed ≡ Some r }
         ensures again { (r : AnyReason) → self.old.failed ≡ Some r → IsErrOf result (Wrong r) }
-        ensures memory { IsErrOf result OutOfMemory
-            → (h : List AnyBlock) → HasTaken self.old h → HasTaken self.new h }
+        ensures memory { IsErrOf result OutOfMemory → HasTaken self.new self.old.taken }
         ensures same { (self.new.image ≡ self.old.image) × (self.new.terms ≡ self.old.terms) }
     {
         if let Some(reason) = self.failed {
@@ -193,7 +194,10 @@ impl Checker {
         let terms = self.terms;
         self.failed = judge(image, terms, &mut self.home, &mut self.packages, block)?;
         match self.failed {
-            None => Ok(()),
+            None => {
+                self.taken.note(block);
+                Ok(())
+            }
             Some(reason) => Err(Take::Wrong(reason)),
         }
     }
@@ -201,8 +205,8 @@ impl Checker {
     /// The least thread that has not ended, None exactly where each has.
     pub fn unfinished(&self) -> Option<u32>
         requires { self.now.failed ≡ None }
-        ensures some { (t : ℕ) → result ≡ Some t → (h : List AnyBlock) → HasTaken self.now h
-            → IsFirstOn self.now.image (end_after self.now.image self.now.terms.fuel h) t }
+        ensures some { (t : ℕ) → result ≡ Some t → IsFirstOn self.now.image
+            (end_after self.now.image self.now.terms.fuel self.now.taken) t }
         ensures none { result ≡ None → HasEnded self.now }
     {
         for t in 0..self.packages.len() {
@@ -213,18 +217,18 @@ impl Checker {
         None
     }
 
-    /// All packages and all lock states, in order of number, as the history leaves them. It takes no
-    /// memory.
+    /// All packages and all lock states, in order of number, as the blocks that were taken leave
+    /// them. It takes no memory.
     pub fn parts(self) -> (Vec<Package>, Vec<LockState>)
         requires failed { self.failed ≡ None }
         requires ended { HasEnded self }
-        ensures { (h : List AnyBlock) → HasTaken self h
-            → Lawful self.image self.terms.fuel self.terms.limit h
+        ensures { Lawful self.image self.terms.fuel self.terms.limit self.taken
             (map bare result.0.items) (map kept result.1.items) }
     {
         let Checker {
             of: _,
             terms: _,
+            taken: _,
             packages,
             mut home,
             mut states,

@@ -42,6 +42,7 @@ pub fn checked(
 {
     let mut checker = Checker::new(alloc, image, terms)?;
     for (i, block) in history.iter().enumerate() {
+        checker.keeps();
         match checker.take(image, block) {
             Ok(()) => {}
             Err(Take::Wrong(reason)) => {

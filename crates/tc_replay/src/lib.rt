@@ -10,9 +10,10 @@
 //! away at its end. What a history says of its sections it may say of any thread, of the one that
 //! released the lock too.
 //!
-//! - `specs/Rejected.antt`: what is wrong with a history, and where. `specs/Taken.antt`: when a
-//!   checker has taken the blocks of a history. `specs/Run.antt`: a recorded block beside the one
-//!   that ran. `specs/Reasons.antt`: numbers and names of reasons.
+//! - `specs/Rejected.antt`: what is wrong with a history, and where. `specs/Taken.antt`: a
+//!   checker as a caller sees it, and what its packages and locks are behind the blocks that it has
+//!   taken. `specs/Run.antt`: a recorded block beside the one that ran. `specs/Reasons.antt`:
+//!   numbers and names of reasons.
 //! - `reason`: why a history is rejected. `judge`: one block of one thread. `checker`: all threads,
 //!   block by block. `checking`: a whole history. `law`: what a history that is not rejected is.
 //!

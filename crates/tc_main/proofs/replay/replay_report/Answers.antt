@@ -17,7 +17,7 @@ returns c =
     let packages : List PackageView = c.deref.result.now in
     let locks : List LockView = c.deref-2.result.now in
     let left : Lawful r.image o.fuel o.limit h (map bare c.parts-packages.result.0.items) (map kept c.parts-packages.result.1.items) =
-    law_of r.checker r.image o h c.requires.image c.requires.terms c.parts-packages.result.0.items c.parts-packages.result.1.items (c.parts-packages.ensures h c.requires.taken) in
+    law_of r.checker r.image o h c.requires.image c.requires.terms c.requires.taken.taken c.parts-packages.result.0.items c.parts-packages.result.1.items c.parts-packages.ensures in
     let law : Lawful r.image o.fuel o.limit h (map bare packages) (map kept locks) =
     subst (λ (x : List PackageView × List LockView). Lawful r.image o.fuel o.limit h (map bare x.0) (map kept x.1)) (λ i. (sym c.deref.ensures.value i, sym c.deref-2.ensures.value i)) left in
     let told = report_told r.image o h packages locks law c.requires.run.complete in

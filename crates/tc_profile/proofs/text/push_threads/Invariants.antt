@@ -1,10 +1,8 @@
-use Rattle.std.proofs.Common.{◌≡◌, ◌++◌, List}
+use Rattle.std.proofs.Common.{◌≡◌, ◌++◌}
 use Rattle.std.specs.Prelude.{string_bytes}
 use Rattle.std.specs.List.{range_with_len, flat_map}
-use Rattle.tc_journal.specs.declared.block.Block.{Block}
-use Rattle.tc_profile.specs.Stands.{StandsFor}
 use Rattle.tc_profile.specs.Text.{thread_text}
 use Rattle.tc_profile.proofs.text.push_threads.Given as goal
 
 abbrev pub invariant-loop-number : goal.invariant-loop-number
-invariant-loop-number l = (h : List Block) → StandsFor l.profile h → string_bytes l.out ≡ string_bytes l.fn.out ++ flat_map (thread_text h) (range_with_len 0 l.number)
+invariant-loop-number l = string_bytes l.out ≡ string_bytes l.fn.out ++ flat_map (thread_text l.profile.history) (range_with_len 0 l.number)
