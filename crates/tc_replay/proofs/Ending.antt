@@ -1,6 +1,6 @@
 -- What a checker has once its threads have ended.
 use Rattle.std.proofs.Common.{◌≡◌, ◌⊎◌, ℕ, ◌+◌, ◌<◌, ◌≤◌, ◌==◌, Bool, true, false, List, [], ◌∷◌, ◌++◌, map, length, refl, sym, ap, subst, ◌∙◌, arith, inl, inr, ⊎_elim}
-use Rattle.std.specs.Prelude.{Option, Some, None, Result, Ok, Err, OnOk, nat_lt, if◌then◌else◌}
+use Rattle.std.specs.Prelude.{Option, Some, None, nat_lt, if◌then◌else◌}
 use Rattle.std.proofs.lemmas.Bool.Decides.{eqb_tells}
 use Rattle.std.proofs.lemmas.List.{length-map}
 use mathlib.Core.Option.{some, some-injective, some-ne-none}
@@ -83,10 +83,6 @@ ended_more packages t p so_far here over u x lt at = elim (eqb_tells u t) [
 -- a checker keeps what its parts do
 pub kept_by : (v w : CheckerView) → v ≡ w → HasWhatItTook v → HasWhatItTook w
 kept_by v w is keeps = subst HasWhatItTook is keeps
-
-pub ok_given : {T E : Type 0} (r : Result T E) (P : Type 0) → ((x : T) → r ≡ Ok x → P) → OnOk r P
-ok_given (Ok x) P f = f x refl
-ok_given (Err e) P f = tt
 
 -- so many locks are given away: these are still at home
 pub record IsGiven (image : Shown) (home : List (Option LockView)) (n : ℕ) (now : List (Option LockView)) (states : List LockView) : Type 0 where
