@@ -20,7 +20,8 @@ use Rattle.tc_replay.specs.Taken.{CheckerView, HasTaken, HasWhatItTook}
 use Rattle.tc_replay.specs.declared.reason.Rejected.{Rejected}
 use Rattle.tc_report.specs.Legal.{results_after}
 use Rattle.tc_report.specs.Report.{head_text, report_text, tail_text}
-use Rattle.tc_main.specs.Top.{Rejects, Verdict, refused_line, rejected_line}
+use Rattle.tc_main.specs.Top.{Rejects, refused_line, rejected_line}
+use Rattle.tc_main.specs.Ends.{Verdict}
 use Rattle.tc_main.specs.Words.{AskFor, FitsInput, Input, Reads, file_and_history, history_asked, input_of, whole_file}
 use Rattle.tc_main.specs.Wrong.{IsWrong, IsWrongFile, IsWrongInput, IsWrongText}
 use Rattle.tc_main.specs.declared.order.Order.{Order}

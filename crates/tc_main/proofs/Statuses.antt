@@ -15,7 +15,8 @@ use Rattle.tc_replay.proofs.Telling.{run_accepted}
 use Rattle.tc_replay.proofs.Wrong.{one_rejection, never_both}
 use Rattle.tc_main.specs.Words.{AskFor, AskForNothing, AskToRead, Input, Reads, file_and_history, history_asked, input_of, whole_file}
 use Rattle.tc_main.specs.Replayed.{HasHistory, HasRun, IsRejection}
-use Rattle.tc_main.specs.Top.{Accepts, CanBeDone, Ends, FailsToRead, HasInput, HasRead, IsRefused, IsRejectedFor, IsTextOf, IsWanted, MustRefuse, ReadsAll, RefusesBytes, Rejects}
+use Rattle.tc_main.specs.Top.{Accepts, CanBeDone, FailsToRead, HasInput, HasRead, IsRefused, IsRejectedFor, IsTextOf, IsWanted, MustRefuse, ReadsAll, RefusesBytes, Rejects}
+use Rattle.tc_main.specs.Ends.{Ends}
 use Rattle.tc_main.specs.declared.status.Status.{Status}
 use Rattle.tc_main.specs.declared.status.Status.TheVariants.{Done, Usage, ReadFault, Refused, WriteFault, OutOfMemory, Rejected}
 use Rattle.tc_main.specs.declared.words.Command.{Command}

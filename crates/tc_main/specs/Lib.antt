@@ -3,6 +3,7 @@ pub mod Orders
 pub mod Words
 pub mod Replayed
 pub mod Top
+pub mod Ends
 pub mod Wrong
 pub mod Accepted
 pub mod Existence

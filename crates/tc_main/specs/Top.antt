@@ -123,16 +123,6 @@ IsTextOf (Demo rounds o) bytes text = IsSummaryOf rounds o text
 IsTextOf (Replay size o) bytes text = IsReplayReport size o bytes text
 IsTextOf (Profile size o) bytes text = (run : HasRun size o bytes) × (text ≡ profile_text run.image run.history)
 
--- what the bytes that were read for what is asked come to: a text, a refusal or a rejection with its line
-abbrev pub Verdict : Command → List ℕ → List ℕ → Status → Type 0
-Verdict asked bytes text Done = IsTextOf asked bytes text
-Verdict asked bytes text (Refused k) = (input : Input) × (input_of asked ≡ Some input) × ((name : List ℕ) × AreRefused input bytes k name × (text ≡ refused_line k name))
-Verdict asked bytes text Usage = ⊥
-Verdict asked bytes text ReadFault = ⊥
-Verdict asked bytes text WriteFault = ⊥
-Verdict asked bytes text OutOfMemory = ⊥
-Verdict asked bytes text (Rejected r) = Rejects (history_asked asked) bytes r × (text ≡ rejected_line r)
-
 -- the text is what the words ask for, of what was read of the source
 pub record IsWanted (words : List (List ℕ)) (before now : Stream) (text : List ℕ) : Type 0 where
   pub asked : Command
@@ -206,26 +196,3 @@ Writes had has text = Gives had has text ⊎ FailsAmid had has text
 
 abbrev pub WritesNothing : Stream → Stream → Type 0
 WritesNothing had has = Gives had has []
-
--- ---- answers
-
--- the words and the source come to this status, with a text of which P holds
-abbrev pub Comes : List (List ℕ) → Stream → Stream → (List ℕ → Type 0) → Status → Type 0
-Comes words before now P Done = (text : List ℕ) × IsWanted words before now text × P text
-Comes words before now P Usage = AskForNothing words × (now ≡ before) × P usage_line
-Comes words before now P ReadFault = FailsToRead words before now × P []
-Comes words before now P (Refused k) =
-    (input : Input) × AskToRead words input × ((name : List ℕ) × IsRefused input before now k name × P (refused_line k name))
-Comes words before now P WriteFault = ⊥
-Comes words before now P OutOfMemory = ⊥
-Comes words before now P (Rejected r) = IsRejectedFor words before now r × P (rejected_line r)
-
--- how the program ends: what the words and the source come to, and how much of the text was written
-abbrev pub Ends : List (List ℕ) → Stream → Stream → Stream → Stream → Status → Type 0
-Ends words before now had has Done = Comes words before now (Gives had has) Done
-Ends words before now had has Usage = Comes words before now (Writes had has) Usage
-Ends words before now had has ReadFault = Comes words before now (Gives had has) ReadFault
-Ends words before now had has (Refused k) = Comes words before now (Writes had has) (Refused k)
-Ends words before now had has WriteFault = Comes words before now (FailsAmid had has) Done
-Ends words before now had has OutOfMemory = ReadsNoFurther words before now × WritesNothing had has
-Ends words before now had has (Rejected r) = Comes words before now (Writes had has) (Rejected r)

@@ -3,7 +3,8 @@
 ghost use Rattle.std.specs.Prelude.{◌≡◌, ℕ, ◌+◌, List, IfOk, IfErr, None, OnErr, Some, option_map};
 ghost use Rattle.tc_io.specs.Taken.{TakesAtMost};
 ghost use Rattle.tc_main.specs.Wrong.{IsWrong};
-ghost use Rattle.tc_main.specs.Top.{Comes, IsTextOf, ReadsNoFurther, Verdict, refused_line, rejected_line, usage_line};
+ghost use Rattle.tc_main.specs.Top.{IsTextOf, ReadsNoFurther, refused_line, rejected_line, usage_line};
+ghost use Rattle.tc_main.specs.Ends.{Comes, Verdict};
 ghost use Rattle.tc_report.specs.Written.{Wrote};
 ghost use Rattle.tc_main.specs.Words.{AskFor, FitsInput, Input, IsWithinLimits, Reads, input_of};
 ghost use Rattle.tc_main.specs.declared.status.Status.TheVariants.{Refused, Rejected as IsRejected};

@@ -16,7 +16,8 @@
 //! - `build`, `generate`: files of guests, of tc_build. `options`: with what a guest is run, of tc_isa.
 //!   `gate`: whom its workers tell how far they are, of tc_workers. `report`, `summary`: the texts of
 //!   a report and of a summary, of tc_report.
-//! - `status`: how the program ends. `top`: the top call.
+//! - `status`: how the program ends. `top`: the top call. `program`: the words of the command line,
+//!   and the status of the process.
 //! - `delegation`: what the history of a legal run is to the pure machine of tc_core, and what it
 //!   shows of each section. `existence`: that there is a legal run. `round_trip`: what `run` wrote,
 //!   `replay` writes again. `rejection`: that a history is rejected in one way at most. `counts`: the
@@ -30,6 +31,7 @@ mod demo;
 pub mod existence;
 mod nodes;
 pub mod order;
+pub mod program;
 pub mod rejection;
 mod replay;
 pub mod round_trip;

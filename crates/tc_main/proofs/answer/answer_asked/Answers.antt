@@ -5,7 +5,8 @@ use Rattle.std.proofs.lemmas.Result.{IfOk-weaker, on_err_weaker}
 use Rattle.tc_io.specs.Stream.{Stream}
 use Rattle.tc_io.specs.Taken.{FailsWithin, TakesCount}
 use Rattle.tc_main.specs.Words.{AskFor, Input, input_of}
-use Rattle.tc_main.specs.Top.{Comes, HasRead, ReadsAll, ReadsTooMany, Verdict}
+use Rattle.tc_main.specs.Top.{HasRead, ReadsAll, ReadsTooMany}
+use Rattle.tc_main.specs.Ends.{Comes, Verdict}
 use Rattle.tc_report.specs.Written.{Wrote}
 use Rattle.tc_main.specs.declared.status.Status.{Status}
 use Rattle.tc_main.specs.declared.status.Status.TheVariants.{Done, Usage, ReadFault, Refused, WriteFault, OutOfMemory, Rejected}

@@ -1,6 +1,6 @@
 use Rattle.std.proofs.Common.{ℕ, List, IfOk, subst}
 use Rattle.tc_io.specs.Stream.{Stream}
-use Rattle.tc_main.specs.Top.{Verdict}
+use Rattle.tc_main.specs.Ends.{Verdict}
 use Rattle.tc_report.specs.Written.{Wrote}
 use Rattle.tc_main.proofs.answer.answer_bytes.Goals as goal
 

@@ -1,0 +1,51 @@
+-- How the program ends.
+use Rattle.std.specs.Prelude.{◌≡◌, ℕ, List, [], Some}
+use Rattle.tc_io.specs.Stream.{Stream}
+use Rattle.tc_io.specs.Taken.{FailsAmid, Gives}
+use Rattle.tc_main.specs.Statuses.{status_number}
+use Rattle.tc_main.specs.Top.{AreRefused, FailsToRead, IsRefused, IsRejectedFor, IsTextOf, IsWanted, ReadsNoFurther, Rejects, Writes, WritesNothing, refused_line, rejected_line, usage_line}
+use Rattle.tc_main.specs.Words.{AskForNothing, AskToRead, Input, Reads, history_asked, input_of}
+use Rattle.tc_main.specs.declared.status.Status.{Status}
+use Rattle.tc_main.specs.declared.status.Status.TheVariants.{Done, Usage, ReadFault, Refused, WriteFault, OutOfMemory, Rejected}
+use Rattle.tc_main.specs.declared.words.Command.{Command}
+
+-- what the bytes that were read for what is asked come to: a text, a refusal or a rejection with its line
+abbrev pub Verdict : Command → List ℕ → List ℕ → Status → Type 0
+Verdict asked bytes text Done = IsTextOf asked bytes text
+Verdict asked bytes text (Refused k) = (input : Input) × (input_of asked ≡ Some input) × ((name : List ℕ) × AreRefused input bytes k name × (text ≡ refused_line k name))
+Verdict asked bytes text Usage = ⊥
+Verdict asked bytes text ReadFault = ⊥
+Verdict asked bytes text WriteFault = ⊥
+Verdict asked bytes text OutOfMemory = ⊥
+Verdict asked bytes text (Rejected r) = Rejects (history_asked asked) bytes r × (text ≡ rejected_line r)
+
+-- the words and the source come to this status, with a text of which P holds
+abbrev pub Comes : List (List ℕ) → Stream → Stream → (List ℕ → Type 0) → Status → Type 0
+Comes words before now P Done = (text : List ℕ) × IsWanted words before now text × P text
+Comes words before now P Usage = AskForNothing words × (now ≡ before) × P usage_line
+Comes words before now P ReadFault = FailsToRead words before now × P []
+Comes words before now P (Refused k) =
+    (input : Input) × AskToRead words input × ((name : List ℕ) × IsRefused input before now k name × P (refused_line k name))
+Comes words before now P WriteFault = ⊥
+Comes words before now P OutOfMemory = ⊥
+Comes words before now P (Rejected r) = IsRejectedFor words before now r × P (rejected_line r)
+
+-- how the program ends: what the words and the source come to, and how much of the text was written
+abbrev pub Ends : List (List ℕ) → Stream → Stream → Stream → Stream → Status → Type 0
+Ends words before now had has Done = Comes words before now (Gives had has) Done
+Ends words before now had has Usage = Comes words before now (Writes had has) Usage
+Ends words before now had has ReadFault = Comes words before now (Gives had has) ReadFault
+Ends words before now had has (Refused k) = Comes words before now (Writes had has) (Refused k)
+Ends words before now had has WriteFault = Comes words before now (FailsAmid had has) Done
+Ends words before now had has OutOfMemory = ReadsNoFurther words before now × WritesNothing had has
+Ends words before now had has (Rejected r) = Comes words before now (Writes had has) (Rejected r)
+
+-- ---- the process
+
+-- the program was given some words and ended so, and the process ends with the number of its status
+pub record EndsProcess (before now had has : Stream) (code : ℕ) : Type 0 where
+  pub words : List (List ℕ)
+  pub status : Status
+  pub ends : Ends words before now had has status
+  pub unread : ¬ Reads words → now ≡ before
+  pub number : code ≡ status_number status

@@ -1,0 +1,71 @@
+//! The program round the top call: the words of the command line, and the status of the process.
+
+ghost use Rattle.std.specs.Prelude.{◌≡◌, ℕ, List};
+ghost use Rattle.std.specs.Process.{exit_status};
+ghost use Rattle.tc_main.specs.Ends.{Ends, EndsProcess};
+ghost use Rattle.tc_main.specs.Words.{Reads};
+
+use crate::status::{Status, exit_of};
+use crate::top::tclocks;
+use std::alloc::{AllocError, Global};
+use std::env;
+use std::env::Env;
+use std::io::ErrorKind;
+use std::process::ExitCode;
+use std::sync::Wait;
+use std::thread::Threads;
+use tc_io::{Sink, Source, Word};
+use tc_workers::gate::Open;
+
+/// The words of the command line, behind the program's name. Words that are not all UTF-8 are
+/// answered as no words, which ask for nothing. No clause tells what the environment gives: the
+/// stored runs of the programs do.
+pub fn words_of<R: Env + AllocGlobal>(rt: &R, alloc: Global) -> Result<Vec<Word>, AllocError> {
+    let mut words = Vec::new(alloc);
+    match env::args(rt) {
+        Ok(args) => {
+            for arg in args.skip(1) {
+                words.push(Word::from_bytes(alloc, arg.as_str().as_bytes())?)?;
+            }
+        }
+        Err(error) if error.kind() == ErrorKind::OutOfMemory => return Err(AllocError),
+        Err(_) => {}
+    }
+    Ok(words)
+}
+
+/// Does what the words of the command line ask for. Where there is no memory for them, nothing is
+/// read and nothing is written.
+fn run_command<R: Env + AllocGlobal + Threads + Wait + Sync, S: Source, K: Sink>(
+    rt: &R,
+    source: &mut S,
+    sink: &mut K,
+) -> Status
+    ensures { (words : List (List ℕ)) × Ends words (S.stream source.old) (S.stream source.new)
+        (K.stream sink.old) (K.stream sink.new) result
+        × (¬ Reads words → S.stream source.new ≡ S.stream source.old) }
+{
+    let alloc = rt.alloc();
+    match words_of(rt, alloc) {
+        Ok(words) => tclocks(rt, alloc, &words, source, sink, &Open),
+        Err(_) => Status::OutOfMemory,
+    }
+}
+
+/// The whole program, but for the streams of the process: does what the words of the command line
+/// ask for, by the top call, and answers with what the process ends. That is 0 where it is done,
+/// and else the number of the status that says why not.
+///
+/// No clause says that the words are those of the command line, since the environment tells nothing
+/// of them.
+pub fn run_program<R: Env + AllocGlobal + Threads + Wait + Sync, S: Source, K: Sink>(
+    rt: &R,
+    source: &mut S,
+    sink: &mut K,
+) -> ExitCode
+    // With these words the top call comes to this end, and the process ends with its number.
+    ensures ends { EndsProcess (S.stream source.old) (S.stream source.new)
+        (K.stream sink.old) (K.stream sink.new) (exit_status result) }
+{
+    ExitCode::from(exit_of(run_command(rt, source, sink)))
+}
