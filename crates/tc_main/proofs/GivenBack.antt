@@ -3,7 +3,6 @@ use Rattle.std.proofs.Common.{◌≡◌, ℕ, ◌<◌, ◌≤◌, ◌++◌, Bool
 use Rattle.std.specs.List.{range_with_len}
 use Rattle.std.proofs.Math.Seq.{take-append_seam, drop-append_seam}
 use Rattle.std.proofs.lemmas.Bool.{cases_lt}
-use Rattle.std.proofs.lemmas.Option.{same_Some, none-some}
 use Rattle.tc_io.specs.Causes.{Rose}
 use Rattle.tc_io.specs.Stream.{Stream}
 use Rattle.tc_isa.specs.Sets.{has}
@@ -24,12 +23,13 @@ use Rattle.tc_report.specs.Results.{Results}
 use Rattle.tc_main.specs.Replayed.{HasHistory}
 use Rattle.tc_main.specs.RoundTrip.{IsGivenBack}
 use Rattle.tc_main.specs.Top.{CanBeDone, HasRead, IsTextOf, IsWanted, ReadsAll}
-use Rattle.tc_main.specs.Words.{AskFor, file_and_history, input_of}
+use Rattle.tc_main.specs.Words.{AskFor, FileAndHistory, GuestFile, Needs, Nothing, needs_of}
 use Rattle.tc_main.specs.declared.words.Command.{Command}
 use Rattle.tc_main.specs.declared.words.Command.TheVariants.{Run, Generate, Demo, Replay, Profile}
 use Rattle.tc_main.proofs.Addable.{addable}
 use Rattle.tc_main.proofs.Merging.{filter_none}
-use Rattle.tc_main.proofs.SameAsked.{one_history_asked}
+use Rattle.tc_main.proofs.Refusing.{loaded}
+use Rattle.tc_main.proofs.SameAsked.{one_needs}
 use Rattle.tc_main.proofs.Statuses.{all_of, same_blocks, same_guest}
 
 -- ---- a legal run is a complete one
@@ -67,16 +67,27 @@ module _ (image : Shown) (o : Options) (results : Results) (legal : IsLegalRun i
 -- ---- words that ask for a replay ask for nothing else
 
 one_replay : (words : List (List ℕ)) (size : ℕ) (o : Options) (asked : Command) → AskFor words (Replay size o) → AskFor words asked → asked ≡ Replay size o
-one_replay words size o (Run order p) asks other = absurd (none-some (size, o) (one_history_asked words (Run order p) (Replay size o) other asks))
-one_replay words size o (Generate rounds) asks other = absurd (none-some (size, o) (one_history_asked words (Generate rounds) (Replay size o) other asks))
-one_replay words size o (Demo rounds p) asks other = absurd (none-some (size, o) (one_history_asked words (Demo rounds p) (Replay size o) other asks))
-one_replay words size o (Replay n p) asks other =
-    let same : (n, p) ≡ (size, o) = same_Some (n, p) (size, o) (one_history_asked words (Replay n p) (Replay size o) other asks) in
-    λ i. Replay (same i).0 (same i).1
-one_replay words size o (Profile n p) asks other = absurd (omega (arith, ap first (sym asks.1 ∙ other.1)))
+one_replay words size o asked asks other = same asked other (one_needs words asked (Replay size o) other asks)
   where
     first : List (List ℕ) → ℕ
     first words = length (get_or words 0 [])
+
+    size_of : Needs → ℕ
+    size_of Nothing = 0
+    size_of GuestFile = 0
+    size_of (FileAndHistory n p) = n
+
+    options_of : Needs → Options
+    options_of Nothing = o
+    options_of GuestFile = o
+    options_of (FileAndHistory n p) = p
+
+    same : (asked : Command) → AskFor words asked → needs_of asked ≡ FileAndHistory size o → asked ≡ Replay size o
+    same (Run order p) other e = absurd (cc)
+    same (Generate rounds) other e = absurd (cc)
+    same (Demo rounds p) other e = absurd (cc)
+    same (Replay n p) other e = λ i. Replay (size_of (e i)) (options_of (e i))
+    same (Profile n p) other e = absurd (omega (arith, ap first (sym asks.1 ∙ other.1)))
 
 -- ---- the history of a complete run, given back
 
@@ -99,9 +110,7 @@ module _ (words : List (List ℕ)) (o : Options) (file : List ℕ) (image : Show
     input = record {
       bytes = bytes;
       told = given.told;
-      few = given.few;
-      enough = is.enough;
-      fine = is.guest.0;
+      fine = loaded (FileAndHistory (length file) o) bytes given.few is.enough is.guest.0;
       accepted = record { image = image; history = h; is = is; run = run };
       quiet = quiet;
     };
@@ -110,7 +119,7 @@ module _ (words : List (List ℕ)) (o : Options) (file : List ℕ) (image : Show
   pub report_again : (again : List ℕ) → IsWanted words before now again → again ≡ report_text image o (results_after image o.fuel h)
   report_again again wanted =
       let asked : wanted.asked ≡ Replay (length file) o = one_replay words (length file) o wanted.asked given.asks wanted.asks in
-      let read : ReadsAll (file_and_history (length file)) before now wanted.bytes = subst (λ a. HasRead (input_of a) before now wanted.bytes) asked wanted.read in
+      let read : ReadsAll (FileAndHistory (length file) o) before now wanted.bytes = subst (λ a. HasRead (needs_of a) before now wanted.bytes) asked wanted.read in
       let all : bytes ≡ wanted.bytes = all_of before.bytes now.bytes bytes wanted.bytes given.told read.read.takes.taken read.read.end in
       let made : IsTextOf (Replay (length file) o) bytes again = subst (λ (x : Command × List ℕ). IsTextOf x.0 x.1 again) (λ i. (asked i, sym all i)) wanted.made in
       let image_is : made.run.image ≡ image = same_guest (length file) bytes made.run.image image made.run.history h made.run.is is in

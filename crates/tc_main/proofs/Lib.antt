@@ -2,6 +2,7 @@ pub mod Merging
 pub mod Reporting
 pub mod OneReading
 pub mod SameAsked
+pub mod Refusing
 pub mod Addable
 pub mod Replaying
 pub mod Statuses

@@ -1,10 +1,9 @@
 -- What a replay comes to: its report, its profile, or what is wrong.
 use Rattle.std.proofs.Common.{◌≡◌, ℕ, ◌<◌, ◌≤◌, ◌^◌, ◌++◌, List, map, length, take, drop, inl, inr, refl, sym, ap, subst, ◌∙◌, arith}
-use Rattle.std.specs.Prelude.{Option, Some, None, codes, option_map}
-use Rattle.std.proofs.lemmas.Option.{same_Some}
+use Rattle.std.specs.Prelude.{Some, option_map}
 use Rattle.tc_isa.specs.declared.options.Options.{Options}
 use Rattle.tc_elf.specs.Loading.{subset}
-use Rattle.tc_elf.specs.Refused.{refusal_name, refusal_number}
+use Rattle.tc_elf.specs.Refused.{refusal_number}
 use Rattle.tc_elf.specs.declared.refusal.Refusal.{Refusal}
 use Rattle.tc_elf.specs.Shown.{Shown}
 use Rattle.tc_journal.specs.History.{IsHistory}
@@ -20,9 +19,10 @@ use Rattle.tc_replay.specs.Taken.{CheckerView, HasTaken, HasWhatItTook}
 use Rattle.tc_replay.specs.declared.reason.Rejected.{Rejected}
 use Rattle.tc_report.specs.Legal.{results_after}
 use Rattle.tc_report.specs.Report.{head_text, report_text, tail_text}
+use Rattle.tc_main.specs.Refusals.{named, refusal_of, short_input}
 use Rattle.tc_main.specs.Top.{Rejects, refused_line, rejected_line}
 use Rattle.tc_main.specs.Ends.{Verdict}
-use Rattle.tc_main.specs.Words.{AskFor, FitsInput, Input, Reads, file_and_history, history_asked, input_of, whole_file}
+use Rattle.tc_main.specs.Words.{AskFor, FileAndHistory, GuestFile, Needs, Nothing, Reads, most_of, needs_of}
 use Rattle.tc_main.specs.Wrong.{IsWrong, IsWrongFile, IsWrongInput, IsWrongText}
 use Rattle.tc_main.specs.declared.order.Order.{Order}
 use Rattle.tc_main.specs.declared.status.Status.{Status}
@@ -34,6 +34,7 @@ use Rattle.tc_main.specs.declared.wrong.Wrong.{Wrong}
 use Rattle.tc_main.specs.declared.wrong.Wrong.TheVariants.{Short, File, History, OutOfMemory}
 use Rattle.tc_main.specs.Accepted.{CanAllBeAdded}
 use Rattle.tc_main.proofs.Addable.{addable}
+use Rattle.tc_main.proofs.Refusing.{of_file, short}
 use Rattle.tc_report.proofs.Outcomes.{outcome, told}
 
 -- ---- what is wrong
@@ -53,11 +54,12 @@ text_wrong size o bytes (History r) image enough guest wrong = inl (record { ima
 text_wrong size o bytes OutOfMemory image enough guest wrong = tt
 
 -- the same for what is asked of a history
-pub asked_wrong : (asked : Command) (size : ℕ) (o : Options) (bytes : List ℕ) (w : Wrong) → input_of asked ≡ Some (file_and_history size) → history_asked asked ≡ Some (size, o) → IsWrongInput size o bytes w → IsWrong asked bytes w
-asked_wrong asked size o bytes Short is of wrong = (file_and_history size, is, wrong)
-asked_wrong asked size o bytes (File reason) is of wrong = (file_and_history size, is, wrong.0, wrong.1)
-asked_wrong asked size o bytes (History r) is of wrong = subst (λ (h : Option (ℕ × Options)). Rejects h bytes r) (sym of) wrong
-asked_wrong asked size o bytes OutOfMemory is of wrong = tt
+pub asked_wrong : (asked : Command) (size : ℕ) (o : Options) (bytes : List ℕ) (w : Wrong) → needs_of asked ≡ FileAndHistory size o → length bytes ≤ most_of (FileAndHistory size o) → IsWrongInput size o bytes w → IsWrong asked bytes w
+asked_wrong asked size o bytes Short is few wrong = subst (λ n. refusal_of n bytes ≡ Some short_input) (sym is) (short (FileAndHistory size o) bytes few wrong)
+asked_wrong asked size o bytes (File reason) is few wrong =
+    subst (λ n. refusal_of n bytes ≡ Some (named reason)) (sym is) (of_file (FileAndHistory size o) bytes few wrong.0 ∙ ap (option_map named) wrong.1.0)
+asked_wrong asked size o bytes (History r) is few wrong = subst (λ n. Rejects n bytes r) (sym is) wrong
+asked_wrong asked size o bytes OutOfMemory is few wrong = tt
 
 -- ---- what is told
 
@@ -78,64 +80,30 @@ few_taken v h keeps taken =
 pub addable_taken : (v : CheckerView) (image : Shown) (o : Options) (h : List Block) → HasWhatItTook v → HasTaken v h → IsCompleteRun image o h → CanAllBeAdded image h
 addable_taken v image o h keeps taken run = addable image o.fuel h (end_after image o.fuel h) run.tells (subst (λ (l : List Block). IsHistory l) taken.taken (keeps taken.on).1.law.history)
 
--- ---- what is read
-
--- so many bytes are read for what is asked
-pub record IsReadFor (asked : Command) (most : ℕ) : Type 0 where
-  pub input : Input
-  pub is : input_of asked ≡ Some input
-  pub most_is : most ≡ input.most
-
-pub read_for : (asked : Command) (most : ℕ) → Some most ≡ option_map (λ (i : Input). i.most) (input_of asked) → IsReadFor asked most
-read_for asked most e = go (input_of asked) refl e
-  where
-    go : (o : Option Input) → input_of asked ≡ o → Some most ≡ option_map (λ (i : Input). i.most) o → IsReadFor asked most
-    go None is f = absurd (cc)
-    go (Some input) is f = record { input = input; is = is; most_is = same_Some most input.most f }
-
-pub none_read : (asked : Command) → None ≡ option_map (λ (i : Input). i.most) (input_of asked) → input_of asked ≡ None
-none_read asked e = go (input_of asked) e
-  where
-    go : (o : Option Input) → None ≡ option_map (λ (i : Input). i.most) o → o ≡ None
-    go None f = refl
-    go (Some input) f = absurd (cc)
-
 -- ---- what is answered
 
 -- the answer to what is wrong is the verdict
-pub answer_short : (asked : Command) (bytes : List ℕ) (s : Status) → IsWrong asked bytes Short → s ≡ Refused 17 → Verdict asked bytes (refused_line 17 (codes "ShortInput")) s
-answer_short asked bytes s wrong is =
-    subst (Verdict asked bytes (refused_line 17 (codes "ShortInput"))) (sym is) (wrong.0, wrong.1, (codes "ShortInput", inl (wrong.2, refl, refl), refl))
+pub answer_short : (asked : Command) (bytes : List ℕ) (s : Status) → IsWrong asked bytes Short → s ≡ Refused 17 → Verdict asked bytes (refused_line short_input) s
+answer_short asked bytes s wrong is = subst (Verdict asked bytes (refused_line short_input)) (sym is) (short_input, wrong, refl, refl)
 
-pub answer_file : (asked : Command) (bytes : List ℕ) (s : Status) (reason : Refusal) → IsWrong asked bytes (File reason) → s ≡ Refused (refusal_number reason) → Verdict asked bytes (refused_line (refusal_number reason) (refusal_name reason)) s
-answer_file asked bytes s reason wrong is =
-    subst (Verdict asked bytes (refused_line (refusal_number reason) (refusal_name reason))) (sym is) (
-      wrong.0,
-      wrong.1,
-      (refusal_name reason, inr (wrong.2, record { reason = reason; first = wrong.3.0; known = wrong.3.1; number = refl; called = refl }), refl),
-    )
+pub answer_file : (asked : Command) (bytes : List ℕ) (s : Status) (reason : Refusal) → IsWrong asked bytes (File reason) → s ≡ Refused (refusal_number reason) → Verdict asked bytes (refused_line (named reason)) s
+answer_file asked bytes s reason wrong is = subst (Verdict asked bytes (refused_line (named reason))) (sym is) (named reason, wrong, refl, refl)
 
 pub answer_history : (asked : Command) (bytes : List ℕ) (s : Status) (r : Rejected) → IsWrong asked bytes (History r) → s ≡ status.Rejected r → Verdict asked bytes (rejected_line r) s
 answer_history asked bytes s r wrong is = subst (Verdict asked bytes (rejected_line r)) (sym is) (wrong, refl)
 
 -- what is wrong with a guest's file alone
-pub run_wrong : (order : Order) (o : Options) (bytes : List ℕ) (w : Wrong) → IsWrongFile bytes w → IsWrong (Run order o) bytes w
-run_wrong order o bytes Short wrong = absurd wrong
-run_wrong order o bytes (File reason) wrong = (whole_file, refl, omega arith, wrong)
-run_wrong order o bytes (History r) wrong = absurd wrong
-run_wrong order o bytes OutOfMemory wrong = tt
+pub run_wrong : (order : Order) (o : Options) (bytes : List ℕ) (w : Wrong) → length bytes ≤ most_of GuestFile → IsWrongFile bytes w → IsWrong (Run order o) bytes w
+run_wrong order o bytes Short few wrong = absurd wrong
+run_wrong order o bytes (File reason) few wrong = of_file GuestFile bytes few (omega arith) ∙ ap (option_map named) wrong.0
+run_wrong order o bytes (History r) few wrong = absurd wrong
+run_wrong order o bytes OutOfMemory few wrong = tt
 
--- where the words ask for nothing that is read, nothing is read for it
-pub unread_input : (words : List (List ℕ)) (asked : Command) → AskFor words asked → ¬ Reads words → input_of asked ≡ None
-unread_input words asked asks other = go (input_of asked) refl
+-- where the words ask for nothing that is read, nothing is needed for it
+pub unread_needs : (words : List (List ℕ)) (asked : Command) → AskFor words asked → ¬ Reads words → needs_of asked ≡ Nothing
+unread_needs words asked asks other = go (needs_of asked) refl
   where
-    go : (o : Option Input) → input_of asked ≡ o → o ≡ None
-    go None is = refl
-    go (Some input) is = absurd (other (input, record { asked = asked; asks = asks; input_is = is }))
-
--- so many bytes fit what is asked
-pub fits : (asked : Command) (most : ℕ) (bytes : List ℕ) → IsReadFor asked most → length bytes ≤ most → FitsInput asked bytes
-fits asked most bytes for few input is =
-    let same : for.input ≡ input = same_Some for.input input (sym for.is ∙ is) in
-    let most_is : most ≡ input.most = for.most_is ∙ ap (λ (i : Input). i.most) same in
-    omega (arith, few, most_is)
+    go : (n : Needs) → needs_of asked ≡ n → n ≡ Nothing
+    go Nothing is = refl
+    go GuestFile is = absurd (other (GuestFile, record { asked = asked; asks = asks; needs_are = is; some = λ e. absurd (cc) }))
+    go (FileAndHistory size o) is = absurd (other (FileAndHistory size o, record { asked = asked; asks = asks; needs_are = is; some = λ e. absurd (cc) }))

@@ -3,8 +3,9 @@ use Rattle.std.specs.Prelude.{◌≡◌, ℕ, List, [], Some}
 use Rattle.tc_io.specs.Stream.{Stream}
 use Rattle.tc_io.specs.Taken.{FailsAmid, Gives}
 use Rattle.tc_main.specs.Statuses.{status_number}
-use Rattle.tc_main.specs.Top.{AreRefused, FailsToRead, IsRefused, IsRejectedFor, IsTextOf, IsWanted, ReadsNoFurther, Rejects, Writes, WritesNothing, refused_line, rejected_line, usage_line}
-use Rattle.tc_main.specs.Words.{AskForNothing, AskToRead, Input, Reads, history_asked, input_of}
+use Rattle.tc_main.specs.Refusals.{NamedRefusal, refusal_of}
+use Rattle.tc_main.specs.Top.{FailsToRead, IsRefusedFor, IsRejectedFor, IsTextOf, IsWanted, ReadsNoFurther, Rejects, Writes, WritesNothing, refused_line, rejected_line, usage_line}
+use Rattle.tc_main.specs.Words.{AskForNothing, Reads, needs_of}
 use Rattle.tc_main.specs.declared.status.Status.{Status}
 use Rattle.tc_main.specs.declared.status.Status.TheVariants.{Done, Usage, ReadFault, Refused, WriteFault, OutOfMemory, Rejected}
 use Rattle.tc_main.specs.declared.words.Command.{Command}
@@ -12,20 +13,19 @@ use Rattle.tc_main.specs.declared.words.Command.{Command}
 -- what the bytes that were read for what is asked come to: a text, a refusal or a rejection with its line
 abbrev pub Verdict : Command → List ℕ → List ℕ → Status → Type 0
 Verdict asked bytes text Done = IsTextOf asked bytes text
-Verdict asked bytes text (Refused k) = (input : Input) × (input_of asked ≡ Some input) × ((name : List ℕ) × AreRefused input bytes k name × (text ≡ refused_line k name))
+Verdict asked bytes text (Refused k) = (r : NamedRefusal) × (refusal_of (needs_of asked) bytes ≡ Some r) × (k ≡ r.number) × (text ≡ refused_line r)
 Verdict asked bytes text Usage = ⊥
 Verdict asked bytes text ReadFault = ⊥
 Verdict asked bytes text WriteFault = ⊥
 Verdict asked bytes text OutOfMemory = ⊥
-Verdict asked bytes text (Rejected r) = Rejects (history_asked asked) bytes r × (text ≡ rejected_line r)
+Verdict asked bytes text (Rejected r) = Rejects (needs_of asked) bytes r × (text ≡ rejected_line r)
 
 -- the words and the source come to this status, with a text of which P holds
 abbrev pub Comes : List (List ℕ) → Stream → Stream → (List ℕ → Type 0) → Status → Type 0
 Comes words before now P Done = (text : List ℕ) × IsWanted words before now text × P text
 Comes words before now P Usage = AskForNothing words × (now ≡ before) × P usage_line
 Comes words before now P ReadFault = FailsToRead words before now × P []
-Comes words before now P (Refused k) =
-    (input : Input) × AskToRead words input × ((name : List ℕ) × IsRefused input before now k name × P (refused_line k name))
+Comes words before now P (Refused k) = (r : NamedRefusal) × (k ≡ r.number) × IsRefusedFor words before now r × P (refused_line r)
 Comes words before now P WriteFault = ⊥
 Comes words before now P OutOfMemory = ⊥
 Comes words before now P (Rejected r) = IsRejectedFor words before now r × P (rejected_line r)

@@ -1,6 +1,7 @@
 pub mod Statuses
 pub mod Orders
 pub mod Words
+pub mod Refusals
 pub mod Replayed
 pub mod Top
 pub mod Ends

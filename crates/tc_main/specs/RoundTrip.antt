@@ -4,7 +4,7 @@ use Rattle.tc_io.specs.Stream.{Stream}
 use Rattle.tc_isa.specs.declared.options.Options.{Options}
 use Rattle.tc_journal.specs.Line.{history_text}
 use Rattle.tc_journal.specs.declared.block.Block.{Block}
-use Rattle.tc_main.specs.Words.{AskFor, file_and_history}
+use Rattle.tc_main.specs.Words.{AskFor, FileAndHistory, most_of}
 use Rattle.tc_main.specs.declared.words.Command.TheVariants.{Replay}
 
 -- the words ask for a replay with these options, and the source tells that it has this guest's file and behind it the lines of this
@@ -12,4 +12,4 @@ use Rattle.tc_main.specs.declared.words.Command.TheVariants.{Replay}
 pub record IsGivenBack (words : List (List ℕ)) (o : Options) (file : List ℕ) (h : List Block) (source : Stream) : Type 0 where
   pub asks : AskFor words (Replay (length file) o)
   pub told : source.bytes ≡ Some (file ++ history_text h)
-  pub few : length (file ++ history_text h) ≤ (file_and_history (length file)).most
+  pub few : length (file ++ history_text h) ≤ most_of (FileAndHistory (length file) o)

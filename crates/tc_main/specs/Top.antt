@@ -1,14 +1,12 @@
 -- What the program answers and writes.
-use Rattle.std.specs.Prelude.{◌≡◌, ◌≢◌, ℕ, ◌+◌, ◌<◌, ◌≤◌, ◌⊎◌, List, [], ◌∷◌, ◌++◌, length, Option, None, Some, codes, decimal}
+use Rattle.std.specs.Prelude.{◌≡◌, ℕ, ◌+◌, ◌≤◌, ◌⊎◌, List, [], ◌∷◌, ◌++◌, length, None, Some, codes, decimal}
+use Rattle.std.specs.Io.KnownBytes.{IsAtEnd}
 use Rattle.tc_io.specs.Causes.{Rose}
 use Rattle.tc_io.specs.Stream.{Stream}
-use Rattle.tc_io.specs.Taken.{FailsAmid, FailsWithin, Gives, TakesAll, TakesAtMost, TakesCount}
+use Rattle.tc_io.specs.Taken.{FailsAmid, FailsWithin, Gives, Takes, TakesAll, TakesAtMost}
 use Rattle.tc_isa.specs.declared.options.Options.{Options}
-use Rattle.tc_elf.specs.Loading.{refusal, subset}
-use Rattle.tc_elf.specs.Refused.{refusal_number, refusal_name}
+use Rattle.tc_elf.specs.Loading.{subset}
 use Rattle.tc_elf.specs.Shown.{Shown}
-use Rattle.tc_elf.specs.declared.refusal.Refusal.{Refusal}
-use Rattle.tc_elf.specs.declared.refusal.Refusal.TheVariants as refused
 use Rattle.tc_build.specs.Generator.{generated, generated_file}
 use Rattle.tc_profile.specs.Text.{profile_text}
 use Rattle.tc_replay.specs.Reasons.{reason_number, reason_name}
@@ -18,7 +16,8 @@ use Rattle.tc_main.specs.Replayed.{HasRun, IsRejection, IsReplayReport}
 use Rattle.tc_report.specs.Report.{report_text}
 use Rattle.tc_report.specs.Results.{Results}
 use Rattle.tc_report.specs.Summary.{summary_text}
-use Rattle.tc_main.specs.Words.{Input, AskFor, AskForNothing, AskToRead, history_asked, input_of}
+use Rattle.tc_main.specs.Refusals.{NamedRefusal, refusal_of}
+use Rattle.tc_main.specs.Words.{AskFor, AskForNothing, AskToRead, FileAndHistory, GuestFile, Needs, Nothing, most_of, needs_of}
 use Rattle.tc_main.specs.declared.status.Status.{Status}
 use Rattle.tc_main.specs.declared.status.Status.TheVariants.{Done, Usage, ReadFault, Refused, WriteFault, OutOfMemory, Rejected}
 use Rattle.tc_main.specs.declared.words.Command.{Command}
@@ -28,8 +27,8 @@ abbrev pub usage_line : List ℕ
 usage_line = codes "usage: tclocks run W F B | tclocks gen N | tclocks demo N W | tclocks replay N W F B | tclocks nodes G K W F B | tclocks profile N W F B\n"
 
 -- the number and the name of a refusal
-abbrev pub refused_line : ℕ → List ℕ → List ℕ
-refused_line k name = codes "refused " ++ decimal k ++ codes " " ++ name ++ 10 ∷ []
+abbrev pub refused_line : NamedRefusal → List ℕ
+refused_line r = codes "refused " ++ decimal r.number ++ codes " " ++ r.name ++ 10 ∷ []
 
 -- where a history is rejected, and the number and the name of the reason
 abbrev pub rejected_line : Rejection → List ℕ
@@ -37,65 +36,56 @@ rejected_line r = codes "rejected " ++ decimal r.line ++ codes " " ++ decimal (r
 
 -- ---- what was read, by the source before and after the call
 
--- the source was read to its end, and had these bytes, which are no more than the input may have
-pub record ReadsAll (input : Input) (before now : Stream) (bytes : List ℕ) : Type 0 where
-  pub few : length bytes ≤ input.most
+-- the source was read to its end, and had these bytes, which are no more than are read for this
+pub record ReadsAll (needs : Needs) (before now : Stream) (bytes : List ℕ) : Type 0 where
+  pub few : length bytes ≤ most_of needs
   pub read : TakesAll before now bytes
 
--- more bytes were read than the input may have
-abbrev pub ReadsTooMany : Input → Stream → Stream → Type 0
-ReadsTooMany input before now = TakesCount before now (input.most + 1)
-
 -- these bytes were read for what is asked; where it needs none, none were
-abbrev pub HasRead : Option Input → Stream → Stream → List ℕ → Type 0
-HasRead None before now bytes = (now ≡ before) × (bytes ≡ [])
-HasRead (Some input) before now bytes = ReadsAll input before now bytes
+abbrev pub HasRead : Needs → Stream → Stream → List ℕ → Type 0
+HasRead Nothing before now bytes = (now ≡ before) × (bytes ≡ [])
+HasRead GuestFile before now bytes = ReadsAll GuestFile before now bytes
+HasRead (FileAndHistory size o) before now bytes = ReadsAll (FileAndHistory size o) before now bytes
 
--- the words ask for something that is read, and a read failed, behind no more bytes than the input may have
+-- no read failed, and these bytes were read: all of the source's, or, where it has more than are read for this, as many and one
+pub record ReadsEnough (needs : Needs) (before now : Stream) (bytes : List ℕ) : Type 0 where
+  pub read : Takes before now bytes
+  pub most : length bytes ≤ most_of needs + 1
+  pub end : length bytes ≤ most_of needs → IsAtEnd now.bytes
+
+-- the words ask for something that is read, and a read failed, behind no more bytes than are read for it
 abbrev pub FailsToRead : List (List ℕ) → Stream → Stream → Type 0
-FailsToRead words before now = (input : Input) × AskToRead words input × FailsWithin before now input.most
+FailsToRead words before now = (needs : Needs) × AskToRead words needs × FailsWithin before now (most_of needs)
 
--- where the words ask for something that is read, no read failed, and no more was read than the input may have and a byte
--- behind it
+-- where the words ask for something that is read, no read failed, and no more was read than may be for it and a byte behind it
 abbrev pub ReadsNoFurther : List (List ℕ) → Stream → Stream → Type 0
-ReadsNoFurther words before now = (input : Input) → AskToRead words input → TakesAtMost before now (input.most + 1)
+ReadsNoFurther words before now = (needs : Needs) → AskToRead words needs → TakesAtMost before now (most_of needs + 1)
 
 -- ---- refusals
 
--- the bytes of a file are refused for a reason that has this number and this name
-pub record IsRefusedFile (bytes : List ℕ) (k : ℕ) (name : List ℕ) : Type 0 where
-  pub reason : Refusal
-  pub first : refusal bytes ≡ Some reason
-  pub known : reason ≢ refused.OutOfMemory
-  pub number : k ≡ refusal_number reason
-  pub called : name ≡ refusal_name reason
-
--- the bytes that were read are refused by this number and this name: they end before the file does, or the file has a reason
-abbrev pub AreRefused : Input → List ℕ → ℕ → List ℕ → Type 0
-AreRefused input bytes k name =
-    ((length bytes < input.least) × (k ≡ 17) × (name ≡ codes "ShortInput"))
-    ⊎ ((input.least ≤ length bytes) × IsRefusedFile (input.file bytes) k name)
-
--- no read failed, and what was read is refused by this number and this name: it is too large, or it was read whole
-abbrev pub IsRefused : Input → Stream → Stream → ℕ → List ℕ → Type 0
-IsRefused input before now k name =
-    (ReadsTooMany input before now × (k ≡ 0) × (name ≡ codes "TooLarge"))
-    ⊎ ((bytes : List ℕ) × ReadsAll input before now bytes × AreRefused input bytes k name)
+-- the words ask for something that is read, and what was read of the source for it is refused so
+pub record IsRefusedFor (words : List (List ℕ)) (before now : Stream) (r : NamedRefusal) : Type 0 where
+  pub needs : Needs
+  pub bytes : List ℕ
+  pub asks : AskToRead words needs
+  pub read : ReadsEnough needs before now bytes
+  pub refused : refusal_of needs bytes ≡ Some r
 
 -- ---- rejections
 
--- the history, if one is asked for, is rejected so
-abbrev pub Rejects : Option (ℕ × Options) → List ℕ → Rejection → Type 0
-Rejects None bytes r = ⊥
-Rejects (Some h) bytes r = IsRejection h.0 h.1 bytes r
+-- the history, if one is needed, is rejected so
+abbrev pub Rejects : Needs → List ℕ → Rejection → Type 0
+Rejects Nothing bytes r = ⊥
+Rejects GuestFile bytes r = ⊥
+Rejects (FileAndHistory size o) bytes r = IsRejection size o bytes r
 
 -- the words ask for a history, no read failed, and it is rejected so
 pub record IsRejectedFor (words : List (List ℕ)) (before now : Stream) (r : Rejection) : Type 0 where
   pub asked : Command
   pub bytes : List ℕ
   pub asks : AskFor words asked
-  pub read : HasRead (input_of asked) before now bytes
-  pub rejected : Rejects (history_asked asked) bytes r
+  pub read : HasRead (needs_of asked) before now bytes
+  pub rejected : Rejects (needs_of asked) bytes r
 
 -- ---- texts
 
@@ -128,65 +118,59 @@ pub record IsWanted (words : List (List ℕ)) (before now : Stream) (text : List
   pub asked : Command
   pub bytes : List ℕ
   pub asks : AskFor words asked
-  pub read : HasRead (input_of asked) before now bytes
+  pub read : HasRead (needs_of asked) before now bytes
   pub made : IsTextOf asked bytes text
 
 -- ---- what is to be done
 
--- nothing is wrong with the history, if one is asked for
-abbrev pub Accepts : Option (ℕ × Options) → List ℕ → Type 0
-Accepts None bytes = Unit {0}
-Accepts (Some h) bytes = HasRun h.0 h.1 bytes
+-- nothing is wrong with the history, if one is needed
+abbrev pub Accepts : Needs → List ℕ → Type 0
+Accepts Nothing bytes = Unit {0}
+Accepts GuestFile bytes = Unit {0}
+Accepts (FileAndHistory size o) bytes = HasRun size o bytes
 
--- the source tells its bytes and gives them without a fault, and they have a file that is not refused, and a history with which
--- nothing is wrong, if one is asked for
-pub record HasFile (asked : Command) (input : Input) (before now : Stream) : Type 0 where
+-- the source tells its bytes and gives them without a fault, they are not refused, and they have a history with which nothing is
+-- wrong, if one is needed
+pub record HasFile (needs : Needs) (before now : Stream) : Type 0 where
   pub bytes : List ℕ
   pub told : before.bytes ≡ Some bytes
-  pub few : length bytes ≤ input.most
-  pub enough : input.least ≤ length bytes
-  pub fine : refusal (input.file bytes) ≡ None
-  pub accepted : Accepts (history_asked asked) bytes
+  pub fine : refusal_of needs bytes ≡ None
+  pub accepted : Accepts needs bytes
   pub quiet : ¬ Rose before now
 
 -- where something is to be read, it has a file
-abbrev pub HasInput : Command → Option Input → Stream → Stream → Type 0
-HasInput asked None before now = Unit {0}
-HasInput asked (Some input) before now = HasFile asked input before now
+abbrev pub HasInput : Needs → Stream → Stream → Type 0
+HasInput Nothing before now = Unit {0}
+HasInput GuestFile before now = HasFile GuestFile before now
+HasInput (FileAndHistory size o) before now = HasFile (FileAndHistory size o) before now
 
 -- the words ask for what can be done
 pub record CanBeDone (words : List (List ℕ)) (before now : Stream) : Type 0 where
   pub asked : Command
   pub asks : AskFor words asked
-  pub input : HasInput asked (input_of asked) before now
+  pub input : HasInput (needs_of asked) before now
 
 -- ---- what is to be refused
 
--- a source with these bytes is to be refused by this number: they are too many or too few, or the file has a reason
-abbrev pub RefusesBytes : Input → List ℕ → ℕ → Type 0
-RefusesBytes input bytes k =
-    ((input.most < length bytes) × (k ≡ 0))
-    ⊎ (((length bytes ≤ input.most) × (length bytes < input.least) × (k ≡ 17))
-    ⊎ ((length bytes ≤ input.most) × (input.least ≤ length bytes) × ((reason : Refusal) × (refusal (input.file bytes) ≡ Some reason) × (k ≡ refusal_number reason))))
-
 -- the words ask for something of a source that tells its bytes without a fault
 pub record TellsBytes (words : List (List ℕ)) (before now : Stream) : Type 0 where
-  pub input : Input
+  pub needs : Needs
   pub bytes : List ℕ
-  pub asks : AskToRead words input
+  pub asks : AskToRead words needs
   pub told : before.bytes ≡ Some bytes
   pub quiet : ¬ Rose before now
 
 -- the words, or the bytes of the source, are to be refused with this status
 abbrev pub MustRefuse : List (List ℕ) → Stream → Stream → Status → Type 0
 MustRefuse words before now Usage = AskForNothing words
-MustRefuse words before now (Refused k) = (source : TellsBytes words before now) × RefusesBytes source.input source.bytes k
+MustRefuse words before now (Refused k) =
+    (source : TellsBytes words before now) × ((r : NamedRefusal) × (refusal_of source.needs source.bytes ≡ Some r) × (k ≡ r.number))
 MustRefuse words before now Done = ⊥
 MustRefuse words before now ReadFault = ⊥
 MustRefuse words before now WriteFault = ⊥
 MustRefuse words before now OutOfMemory = ⊥
 MustRefuse words before now (Rejected r) =
-    (source : TellsBytes words before now) × (length source.bytes ≤ source.input.most) × Rejects (history_asked source.asks.asked) source.bytes r
+    (source : TellsBytes words before now) × (length source.bytes ≤ most_of source.needs) × Rejects source.needs source.bytes r
 
 -- ---- what is written, by the sink before and after the call
 

@@ -1,6 +1,6 @@
 -- The words of the command line: `run W F B`, `gen N`, `demo N W`, `replay N W F B`, `nodes G K W F B` or
 -- `profile N W F B`, each number in decimal digits without a leading zero.
-use Rattle.std.specs.Prelude.{◌≡◌, ℕ, ◌+◌, ◌≤◌, List, [], ◌∷◌, length, take, Option, None, Some, codes, decimal}
+use Rattle.std.specs.Prelude.{◌≡◌, ◌≢◌, ℕ, ◌+◌, ◌≤◌, List, [], ◌∷◌, length, codes, decimal}
 use Rattle.tc_isa.specs.declared.options.Options.{Options}
 use Rattle.tc_build.specs.declared.generate.TheConstants.{MAX_ROUNDS}
 use Rattle.tc_elf.specs.declared.limits.TheConstants.{MAX_FILE}
@@ -42,46 +42,38 @@ AskForNothing words = (asked : Command) → ¬ AskFor words asked
 
 -- ---- what is read
 
--- what is read of the source: at most so many bytes, and at least so many, and which part of them is the guest's file
-pub record Input : Type 0 where
-  pub most : ℕ
-  pub least : ℕ
-  pub file : List ℕ → List ℕ
+-- what is needed of the source: nothing, a guest's file, or a guest's file of so many bytes and behind it the text of a history of it,
+-- which was run with these options
+pub data Needs : Type 0 where
+  Nothing : Needs
+  GuestFile : Needs
+  FileAndHistory : ℕ → Options → Needs
 
--- a guest's file, and nothing else
-abbrev pub whole_file : Input
-whole_file = record { most = MAX_FILE; least = 0; file = λ bytes. bytes }
+-- what is needed for what is asked; a guest that the program makes needs nothing
+abbrev pub needs_of : Command → Needs
+needs_of (Run order o) = GuestFile
+needs_of (Generate rounds) = Nothing
+needs_of (Demo rounds o) = Nothing
+needs_of (Replay size o) = FileAndHistory size o
+needs_of (Profile size o) = FileAndHistory size o
 
--- a guest's file of so many bytes, and the text of a history behind it, of 256 MiB at most
-abbrev pub file_and_history : ℕ → Input
-file_and_history size = record { most = size + 268435456; least = size; file = take size }
-
--- what is read for what is asked; nothing is read for a guest that the program makes
-abbrev pub input_of : Command → Option Input
-input_of (Run order o) = Some whole_file
-input_of (Generate rounds) = None
-input_of (Demo rounds o) = None
-input_of (Replay size o) = Some (file_and_history size)
-input_of (Profile size o) = Some (file_and_history size)
-
--- the history for which is asked: how many bytes the guest's file before it has, and with what the guest was run
-abbrev pub history_asked : Command → Option (ℕ × Options)
-history_asked (Run order o) = None
-history_asked (Generate rounds) = None
-history_asked (Demo rounds o) = None
-history_asked (Replay size o) = Some (size, o)
-history_asked (Profile size o) = Some (size, o)
+-- the most bytes that are read for it; the text of a history has 256 MiB at most
+abbrev pub most_of : Needs → ℕ
+most_of Nothing = 0
+most_of GuestFile = MAX_FILE
+most_of (FileAndHistory size o) = size + 268435456
 
 -- the bytes are no more than are read for what is asked
 abbrev pub FitsInput : Command → List ℕ → Type 0
-FitsInput asked bytes = (input : Input) → input_of asked ≡ Some input → length bytes ≤ input.most
+FitsInput asked bytes = length bytes ≤ most_of (needs_of asked)
 
--- the words ask for something for which this is read
-pub record AskToRead (words : List (List ℕ)) (input : Input) : Type 0 where
+-- the words ask for something for which this is needed of the source
+pub record AskToRead (words : List (List ℕ)) (needs : Needs) : Type 0 where
   pub asked : Command
   pub asks : AskFor words asked
-  pub input_is : input_of asked ≡ Some input
+  pub needs_are : needs_of asked ≡ needs
+  pub some : needs ≢ Nothing
 
 -- the words ask for something for which the source is read
 abbrev pub Reads : List (List ℕ) → Type 0
-Reads words = (input : Input) × AskToRead words input
+Reads words = (needs : Needs) × AskToRead words needs

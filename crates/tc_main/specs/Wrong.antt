@@ -6,7 +6,8 @@ use Rattle.tc_elf.specs.declared.refusal.Refusal.TheVariants as refused
 use Rattle.tc_journal.specs.Reading.{IsFirstWrong}
 use Rattle.tc_journal.specs.Told.{told}
 use Rattle.tc_replay.specs.declared.reason.Reason.TheVariants as reason
-use Rattle.tc_main.specs.Words.{Input, history_asked, input_of}
+use Rattle.tc_main.specs.Refusals.{named, refusal_of, short_input}
+use Rattle.tc_main.specs.Words.{needs_of}
 use Rattle.tc_main.specs.Replayed.{IsRejection}
 use Rattle.tc_main.specs.Top.{Rejects}
 use Rattle.tc_main.specs.declared.words.Command.{Command}
@@ -36,7 +37,7 @@ IsWrongInput size o bytes OutOfMemory = Unit {0}
 
 -- there is no text for what is asked
 abbrev pub IsWrong : Command → List ℕ → Wrong → Type 0
-IsWrong asked bytes Short = (input : Input) × (input_of asked ≡ Some input) × (length bytes < input.least)
-IsWrong asked bytes (File reason) = (input : Input) × (input_of asked ≡ Some input) × (input.least ≤ length bytes) × IsWrongFile (input.file bytes) (File reason)
-IsWrong asked bytes (History r) = Rejects (history_asked asked) bytes r
+IsWrong asked bytes Short = refusal_of (needs_of asked) bytes ≡ Some short_input
+IsWrong asked bytes (File reason) = refusal_of (needs_of asked) bytes ≡ Some (named reason)
+IsWrong asked bytes (History r) = Rejects (needs_of asked) bytes r
 IsWrong asked bytes OutOfMemory = Unit {0}

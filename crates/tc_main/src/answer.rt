@@ -1,12 +1,12 @@
 //! What the words and the source come to: a status, and the text that goes with it, which is written.
 
-ghost use Rattle.std.specs.Prelude.{◌≡◌, ℕ, ◌+◌, List, IfOk, IfErr, None, OnErr, Some, option_map};
+ghost use Rattle.std.specs.Prelude.{◌≡◌, ◌≢◌, ℕ, ◌+◌, List, IfNone, IfOk, IfErr, IfSome, OnErr};
 ghost use Rattle.tc_io.specs.Taken.{TakesAtMost};
 ghost use Rattle.tc_main.specs.Wrong.{IsWrong};
 ghost use Rattle.tc_main.specs.Top.{IsTextOf, ReadsNoFurther, refused_line, rejected_line, usage_line};
 ghost use Rattle.tc_main.specs.Ends.{Comes, Verdict};
 ghost use Rattle.tc_report.specs.Written.{Wrote};
-ghost use Rattle.tc_main.specs.Words.{AskFor, FitsInput, Input, IsWithinLimits, Reads, input_of};
+ghost use Rattle.tc_main.specs.Words.{AskFor, FitsInput, IsWithinLimits, Nothing, Reads, most_of, needs_of};
 ghost use Rattle.tc_main.specs.declared.status.Status.TheVariants.{Refused, Rejected as IsRejected};
 ghost use Rattle.tc_main.specs.declared.words.Command.{Command as AnyCommand};
 
@@ -51,7 +51,10 @@ fn refused<K: Sink>(
     sink: &mut K,
 ) -> Result<Answer, AllocError>
     ensures answer { IfOk result (λ a. (a.status ≡ Refused number)
-        × Wrote (K.stream sink.old) (K.stream sink.new) (refused_line number name.now) a.written) }
+        × Wrote (K.stream sink.old) (K.stream sink.new) (refused_line record {
+          number = number;
+          name = name.now;
+        }) a.written) }
     ensures memory { OnErr result (K.stream sink.new ≡ K.stream sink.old) }
 {
     let line = format!(in alloc; "refused {number} {name}\n")?;
@@ -160,8 +163,10 @@ fn answer_bytes<R: Threads + Wait + Sync, G: Gate, K: Sink>(
 }
 
 /// The most bytes that are read for what is asked; None where nothing is.
-fn most_of(asked: Command) -> Option<usize>
-    ensures { result ≡ option_map (λ (i : Input). i.most) (input_of asked) }
+fn limit_of(asked: Command) -> Option<usize>
+    ensures some { IfSome result (λ most.
+        (needs_of asked ≢ Nothing) × (most ≡ most_of (needs_of asked))) }
+    ensures none { IfNone result (needs_of asked ≡ Nothing) }
 {
     match asked {
         Command::Run { .. } => Some(MAX_BYTES),
@@ -185,12 +190,12 @@ fn answer_asked<R: Threads + Wait + Sync, S: Source, G: Gate, K: Sink>(
     ensures answer { (words : List (List ℕ)) → AskFor words asked
         → IfOk result (λ a. Comes words (S.stream source.old) (S.stream source.new)
         (λ text. Wrote (K.stream sink.old) (K.stream sink.new) text a.written) a.status) }
-    ensures unread { input_of asked ≡ None → S.stream source.new ≡ S.stream source.old }
-    ensures further { OnErr result ((input : Input) → input_of asked ≡ Some input
-        → TakesAtMost (S.stream source.old) (S.stream source.new) (input.most + 1)) }
+    ensures unread { needs_of asked ≡ Nothing → S.stream source.new ≡ S.stream source.old }
+    ensures further { OnErr result (needs_of asked ≢ Nothing
+        → TakesAtMost (S.stream source.old) (S.stream source.new) (most_of (needs_of asked) + 1)) }
     ensures memory { OnErr result (K.stream sink.new ≡ K.stream sink.old) }
 {
-    let Some(most) = most_of(asked) else {
+    let Some(most) = limit_of(asked) else {
         return answer_bytes(rt, alloc, asked, Vec::new(alloc), gate, sink);
     };
     match read_all(alloc, source, most) {

@@ -4,8 +4,9 @@ ghost use Rattle.std.specs.Prelude.{◌≡◌, ℕ, List, ◌⊎◌};
 ghost use Rattle.tc_io.specs.Causes.{Rose};
 ghost use Rattle.tc_io.specs.Stream.{Stream};
 ghost use Rattle.tc_io.specs.Taken.{FailsAmid, Gives};
-ghost use Rattle.tc_main.specs.Words.{AskForNothing, AskToRead, Input, Reads};
-ghost use Rattle.tc_main.specs.Top.{CanBeDone, FailsToRead, IsRefused, IsRejectedFor, IsWanted};
+ghost use Rattle.tc_main.specs.Refusals.{NamedRefusal};
+ghost use Rattle.tc_main.specs.Words.{AskForNothing, Reads};
+ghost use Rattle.tc_main.specs.Top.{CanBeDone, FailsToRead, IsRefusedFor, IsRejectedFor, IsWanted};
 ghost use Rattle.tc_main.specs.Ends.{Comes, Ends};
 ghost use Rattle.tc_report.specs.Written.{Wrote};
 ghost use Rattle.tc_main.specs.Top.{MustRefuse, ReadsNoFurther, Writes, WritesNothing};
@@ -97,10 +98,9 @@ pub fn tclocks<R: Threads + Wait + Sync, S: Source, K: Sink, G: Gate>(
 
     // What was read was refused, no read failed, and the line that says why was written, or a front of
     // it before a write failed.
-    ensures refused { (k : ℕ) → result ≡ Status.Refused k → (input : Input)
-        × AskToRead words.now input × ((name : List ℕ)
-        × IsRefused input (S.stream source.old) (S.stream source.new) k name
-        × Writes (K.stream sink.old) (K.stream sink.new) (refused_line k name)) }
+    ensures refused { (k : ℕ) → result ≡ Status.Refused k → (r : NamedRefusal) × (k ≡ r.number)
+        × IsRefusedFor words.now (S.stream source.old) (S.stream source.new) r
+        × Writes (K.stream sink.old) (K.stream sink.new) (refused_line r) }
 
     // A history was rejected, no read failed, and the line that says where and why was written, or a
     // front of it before a write failed.

@@ -5,7 +5,7 @@ use Rattle.tc_mutex_spec.proofs.Journals.{has_journal}
 use Rattle.tc_main.specs.Replayed.{HasRun}
 use Rattle.tc_main.specs.Top.{IsTextOf}
 use Rattle.tc_report.specs.Written.{Wrote}
-use Rattle.tc_main.specs.Words.{FitsInput, whole_file}
+use Rattle.tc_main.specs.Words.{FitsInput}
 use Rattle.tc_main.specs.Wrong.{IsWrong, IsWrongFile, IsWrongInput}
 use Rattle.tc_main.specs.declared.words.Command.{Command}
 use Rattle.tc_main.specs.declared.words.Command.TheVariants.{Run, Replay, Profile}
@@ -17,25 +17,28 @@ use Rattle.tc_main.proofs.answer.write_asked.Goals as goal
 pub guest_of-requires : goal.guest_of-requires
 guest_of-requires g c =
     let few : FitsInput (Run c.in-Run.order c.in-Run.options) c.args.bytes.items = subst (λ (a : Command). FitsInput a c.args.bytes.items) c.in-Run.is c.requires.few in
-    let count : length c.args.bytes.items ≤ MAX_FILE = few whole_file refl in
+    let count : length c.args.bytes.items ≤ MAX_FILE = few in
     omega (arith, count, ap length c.deref.ensures.value)
 
 pub returns-in_err-image-in-Run-clause-wrong : goal.returns-in_err-image-in-Run-clause-wrong
 returns-in_err-image-in-Run-clause-wrong g c =
+    let few : FitsInput (Run c.in-Run.order c.in-Run.options) c.args.bytes.items = subst (λ (a : Command). FitsInput a c.args.bytes.items) c.in-Run.is c.requires.few in
     let of : (w : Wrong) → IsWrongFile c.deref.result.now w → IsWrong c.args.asked c.args.bytes.items w = λ w wrong.
-    subst (λ (a : Command). IsWrong a c.args.bytes.items w) (sym c.in-Run.is) (run_wrong c.in-Run.order c.in-Run.options c.args.bytes.items w (subst (λ (f : List ℕ). IsWrongFile f w) c.deref.ensures.value wrong)) in
+    subst (λ (a : Command). IsWrong a c.args.bytes.items w) (sym c.in-Run.is) (run_wrong c.in-Run.order c.in-Run.options c.args.bytes.items w few (subst (λ (f : List ℕ). IsWrongFile f w) c.deref.ensures.value wrong)) in
     search (rules, of)
 
 pub returns-in_err-replay-in-Replay-clause-wrong : goal.returns-in_err-replay-in-Replay-clause-wrong
 returns-in_err-replay-in-Replay-clause-wrong g c =
+    let few : FitsInput (Replay c.in-Replay.size c.in-Replay.options) c.args.bytes.items = subst (λ (a : Command). FitsInput a c.args.bytes.items) c.in-Replay.is c.requires.few in
     let of : (w : Wrong) → IsWrongInput c.in-Replay.size c.in-Replay.options c.args.bytes.items w → IsWrong c.args.asked c.args.bytes.items w = λ w wrong.
-    subst (λ (a : Command). IsWrong a c.args.bytes.items w) (sym c.in-Replay.is) (asked_wrong (Replay c.in-Replay.size c.in-Replay.options) c.in-Replay.size c.in-Replay.options c.args.bytes.items w refl refl wrong) in
+    subst (λ (a : Command). IsWrong a c.args.bytes.items w) (sym c.in-Replay.is) (asked_wrong (Replay c.in-Replay.size c.in-Replay.options) c.in-Replay.size c.in-Replay.options c.args.bytes.items w refl few wrong) in
     search (rules, of)
 
 pub returns-in_err-replay-in-Profile-clause-wrong : goal.returns-in_err-replay-in-Profile-clause-wrong
 returns-in_err-replay-in-Profile-clause-wrong g c =
+    let few : FitsInput (Profile c.in-Profile.size c.in-Profile.options) c.args.bytes.items = subst (λ (a : Command). FitsInput a c.args.bytes.items) c.in-Profile.is c.requires.few in
     let of : (w : Wrong) → IsWrongInput c.in-Profile.size c.in-Profile.options c.args.bytes.items w → IsWrong c.args.asked c.args.bytes.items w = λ w wrong.
-    subst (λ (a : Command). IsWrong a c.args.bytes.items w) (sym c.in-Profile.is) (asked_wrong (Profile c.in-Profile.size c.in-Profile.options) c.in-Profile.size c.in-Profile.options c.args.bytes.items w refl refl wrong) in
+    subst (λ (a : Command). IsWrong a c.args.bytes.items w) (sym c.in-Profile.is) (asked_wrong (Profile c.in-Profile.size c.in-Profile.options) c.in-Profile.size c.in-Profile.options c.args.bytes.items w refl few wrong) in
     search (rules, of)
 
 pub returns-in_ok-report-in-Replay-clause-wrote : goal.returns-in_ok-report-in-Replay-clause-wrote

@@ -1,32 +1,29 @@
 use Rattle.std.proofs.Common.{◌≡◌, ℕ, List, refl}
-use Rattle.std.specs.Prelude.{Option, Some, None}
+use Rattle.std.specs.Prelude.{Some}
 use Rattle.tc_io.specs.Stream.{Stream}
 use Rattle.tc_main.specs.Top.{IsRejectedFor, IsWanted}
-use Rattle.tc_main.specs.Words.{AskToRead, Input, history_asked, input_of}
+use Rattle.tc_main.specs.Words.{AskToRead, Needs, needs_of}
 use Rattle.tc_replay.specs.declared.reason.Rejected.{Rejected}
-use Rattle.tc_main.proofs.Statuses.{accepted_of, never, never_both_asked, never_unread, one, one_asked, rejected_of}
+use Rattle.tc_main.proofs.Statuses.{accepted_of, never, never_both_needed, never_unread, one, one_needed, rejected_of}
 use Rattle.tc_main.proofs.rejection.rejection.Goals as goal
 
 -- what is rejected was read
 module _ (words : List (List ℕ)) (before now later : Stream) (bytes : List ℕ) (r : Rejected) (told : before.bytes ≡ Some bytes) (a : IsRejectedFor words before now r) where
-  read_for : (P : Type 0) → ((input : Input) → AskToRead words input → P) → P
-  read_for P next = go (input_of a.asked) refl
-    where
-      go : (i : Option Input) → input_of a.asked ≡ i → P
-      go None none = absurd (never_unread a.asked a.bytes r none a.rejected)
-      go (Some input) is = next input (record { asked = a.asked; asks = a.asks; input_is = is })
+  abbrev needs : Needs
+  needs = needs_of a.asked
+
+  asks : AskToRead words needs
+  asks = record { asked = a.asked; asks = a.asks; needs_are = refl; some = never_unread needs a.bytes r a.rejected }
 
   once : (s : Rejected) → IsRejectedFor words before later s → r ≡ s
-  once s b = read_for (r ≡ s) (λ input asks.
-      one_asked (history_asked asks.asked) bytes r s
-      (rejected_of words before now before before input asks bytes told r a).2
-      (rejected_of words before later before before input asks bytes told s b).2)
+  once s b = one_needed needs bytes r s
+      (rejected_of words before now before before needs asks bytes told r a)
+      (rejected_of words before later before before needs asks bytes told s b)
 
   no_text : (text : List ℕ) → IsWanted words before later text → ⊥
-  no_text text wanted = read_for ⊥ (λ input asks.
-      never_both_asked (history_asked asks.asked) bytes r
-      (accepted_of words before later before before input asks bytes told text wanted)
-      (rejected_of words before now before before input asks bytes told r a).2)
+  no_text text wanted = never_both_needed needs bytes r
+      (accepted_of words before later before before needs asks bytes told text wanted)
+      (rejected_of words before now before before needs asks bytes told r a)
 
 pub returns-clause-one : goal.returns-clause-one
 returns-clause-one c = one

@@ -11,7 +11,7 @@ module _ (words : List (List ℕ)) (before now had has : Stream) where
   whole Done a = a
   whole Usage a = (a.0, a.1, inl a.2)
   whole ReadFault a = a
-  whole (Refused k) a = (a.0, a.1, (a.2.0, a.2.1, inl a.2.2))
+  whole (Refused k) a = (a.0, a.1, a.2, inl a.3)
   whole WriteFault a = absurd a
   whole OutOfMemory a = absurd a
   whole (Rejected r) a = (a.0, inl a.1)
@@ -21,7 +21,7 @@ module _ (words : List (List ℕ)) (before now had has : Stream) where
   cut Done other a = absurd (other refl)
   cut Usage other a = (a.0, a.1, inr a.2)
   cut ReadFault other a = absurd (omega (arith, a.1.short))
-  cut (Refused k) other a = (a.0, a.1, (a.2.0, a.2.1, inr a.2.2))
+  cut (Refused k) other a = (a.0, a.1, a.2, inr a.3)
   cut WriteFault other a = absurd a
   cut OutOfMemory other a = absurd a
   cut (Rejected r) other a = (a.0, inr a.1)
