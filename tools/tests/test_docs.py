@@ -19,7 +19,8 @@ from .common import (ANSWERS, COMPILER, COURSE, DOCS, GUESTS, MADE_UP, ROOT, TEM
 
 
 PICTURES = DOCS / "pictures"
-PAGES = [*ROOT.glob("*.md"), *DOCS.rglob("*.md"), GUESTS / "README.md", ROOT / "bench" / "README.md"]
+CRATE_PAGES = sorted(ROOT.glob("crates/*/README.md"))
+PAGES = [*ROOT.glob("*.md"), *DOCS.rglob("*.md"), GUESTS / "README.md", ROOT / "bench" / "README.md", *CRATE_PAGES]
 BEGINS = re.compile(r"\(?(cat|for|make|done|echo) ?|\./(workbench|tclocks)[ -]|  |$")
 LEFT_OUT = re.compile(r"\./tclocks-build|\./workbench (check|fuzz|refuse|endure|facts|bench)\b|\brt |make .*(-B|CC=)|PATH/TO|\.\.(?!/)"
                       r"|\b(GUEST|REPORT|FOLDER|FILE|HISTORY|RULE|NAME|W F B|G K)\b|apt-get|git |sums$|same$|\[|tclocks (demo|gen|nodes)|(?<!/)my\.elf"
@@ -83,6 +84,35 @@ class Pages(Case):
         text = (DOCS.parent / "README.md").read_text()
         rows = text[text.index("## What is proved"):text.index("## What is neither")].count("\n| ") - 1
         self.assertTrue(6 <= rows <= 12, rows)
+
+
+def counted(crate: Path) -> tuple[int, int, int]:
+    """The lines of a crate's code, definitions and proofs, without its tests: neither blank, nor a comment, nor an import."""
+    left_out = re.compile(r"\s*($|//|--|(pub )?(ghost )?use )")
+    return tuple(sum(not left_out.match(line) for path in crate.glob(which) if path.name != "tests.rt"  # type: ignore[return-value]
+                     for line in path.read_text().splitlines())
+                 for which in ("src/**/*.rt", "specs/**/*.antt", "proofs/**/*.antt"))
+
+
+class Crates(Case):
+    """The pages of crates, and what a page says of the size of a crate."""
+
+    def test_the_callers_stand_in_the_sources(self) -> None:
+        sources = [re.sub(r"\s+", " ", path.read_text()) for path in ROOT.glob("crates/*/src/**/*.rt")]
+        self.assertGreaterEqual(len(CRATE_PAGES), 5)
+        for page in CRATE_PAGES:
+            text = page.read_text()
+            self.assertLessEqual(text.count("\n"), 60, page)
+            callers = re.findall(r"(?s)```rust\n(.*?)```", text)
+            self.assertTrue(callers, page)
+            for caller in callers:
+                plain = re.sub(r"\s+", " ", caller).strip()
+                self.assertTrue(any(plain in source for source in sources), f"{page}: {caller[:80]}")
+
+    def test_the_example_is_as_small_as_the_page_says(self) -> None:
+        code, specs, proofs = counted(ROOT / "crates" / "tc_youngest")
+        self.assertLessEqual(code + specs + proofs, 250)
+        self.assertIn(f"{code} lines of code, {specs} of definitions and {proofs} of proofs", (DOCS / "HOWTO.md").read_text())
 
 
 class Definitions(Case):

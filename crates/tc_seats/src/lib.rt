@@ -8,10 +8,15 @@
 //! The list takes no memory: it is what a table of atomic_table knows of a seat. That table is all
 //! that `Seats` has, with one word, which nobody writes, and no rule; to note a call is to look at
 //! that word. So two queues never share a seat, and a seat's list is that of its own calls.
+//!
+//! - `seats`: seats, and the lists of their calls. `maker`: how the queues of an order are made,
+//!   one for each lock of a run.
 #![tactic(auto)]
 
+mod maker;
 mod seats;
 
+pub use maker::{Made, QueueMaker};
 pub use seats::{NotedSeat, Seats};
 
 #[cfg(test)]

@@ -47,5 +47,4 @@ pub served_last : (xs : List Stacked) (y o : Stacked) → get_or (xs ++ y ∷ []
 served_last [] y o e some_left = ap (λ (b : Bool). if b then (Some y.turn, []) else (Some y.turn, [])) (subst (λ (z : Stacked). (z.left == 0) ≡ false) (sym e) some_left)
 served_last (x ∷ xs) y o e some_left =
     ap (λ (b : Bool). if b then (Some x.turn, xs ++ y ∷ []) else (Some (youngest x (xs ++ y ∷ [])).turn, map passed_over (take (length (xs ++ y ∷ [])) (x ∷ xs ++ y ∷ []))))
-    (subst (λ (z : Stacked). (z.left == 0) ≡ false) (sym e) some_left)
-    ∙ (λ i. (Some (last_of x xs y i).turn, map passed_over (front_of x xs y i)))
+    (subst (λ (z : Stacked). (z.left == 0) ≡ false) (sym e) some_left) ∙ (λ i. (Some (last_of x xs y i).turn, map passed_over (front_of x xs y i)))

@@ -17,7 +17,7 @@
 mod queue;
 mod stack;
 
-pub use queue::YoungestQueue;
+pub use queue::{Youngest, YoungestQueue};
 
 #[cfg(test)]
 mod tests;

@@ -1,25 +1,31 @@
 //! The stack as an order of the waiters of one lock.
 
-ghost use Rattle.std.specs.Prelude.{◌≡◌, ◌<◌, ◌≤◌, All, IfOk, length};
 ghost use Rattle.tc_queue.specs.Lines.{mark_of, seat_as};
-ghost use Rattle.tc_queue.specs.View.{IsOwnSeatOf};
 
 use crate::stack::Stack;
-use std::alloc::{AllocError, Global};
+use std::alloc::Global;
 use std::marker::Model;
 use std::sync::{Mutex, Wait};
-use tc_queue::{Arrival, Departure, Entered, Leave, QueueCall, Turn, Waiters};
-use tc_seats::{NotedSeat, Seats};
+use tc_queue::{Arrival, Departure, Entered, Leave, QueueCall as Call, Turn, Waiters};
+use tc_seats::{Made, NotedSeat, QueueMaker, Seats};
+
+/// The order, for runs: a turn may be passed over as often as the bound says, and the calls of its
+/// queues wait with the handle.
+#[derive(Drop)]
+pub struct Youngest<'a, R: Wait> {
+    pub rt: &'a R,
+    pub bound: u32,
+}
 
 /// The waiters of one lock, of whom the youngest is served first.
 #[derive(Drop)]
-pub struct YoungestQueue<'a, R: Wait + Sync> {
+pub struct YoungestQueue<'a, R: Wait> {
     rt: &'a R,
     stack: Mutex<Stack>,
     seats: Seats,
 }
 
-impl<'a, R: Wait + Sync> Model for YoungestQueue<'a, R> {
+impl<'a, R: Wait> Model for YoungestQueue<'a, R> {
     ghost use Rattle.std.specs.Prelude.{◌≤◌};
     ghost use Rattle.tc_queue.specs.View.{QueueView};
 
@@ -30,23 +36,12 @@ impl<'a, R: Wait + Sync> Model for YoungestQueue<'a, R> {
     ghost invariant = { λ q. q.seats.threads ≤ 64 };
 }
 
-impl<'a, R: Wait + Sync> YoungestQueue<'a, R> {
-    /// A queue for so many threads with nobody in it, and its seats. A turn may be passed over as
-    /// often as the bound says. The calls wait with the handle.
-    pub fn new(
-        rt: &'a R,
-        alloc: Global,
-        threads: u32,
-        seats: u32,
-        bound: u32,
-    ) -> Result<(YoungestQueue<'a, R>, Vec<NotedSeat>), AllocError>
-        requires threads { threads ≤ 64 }
-        requires seats { 0 < seats }
-        ensures threads { IfOk result (λ made. made.0.threads ≡ threads) }
-        ensures count { IfOk result (λ made. length made.1.items ≡ seats) }
-        ensures seats { IfOk result (λ made. All (IsOwnSeatOf made.0) made.1.items) }
-    {
-        let stack = Mutex::new(Stack::new(alloc, bound)?);
+impl<'a, R: Wait + Sync> QueueMaker for Youngest<'a, R> {
+    type Queue = YoungestQueue<'a, R>;
+
+    fn make(&self, alloc: Global, threads: u32, seats: u32) -> Made<YoungestQueue<'a, R>> {
+        let rt = self.rt;
+        let stack = Mutex::new(Stack::new(alloc, self.bound)?);
         let (seats, made) = Seats::new(alloc, threads, seats)?;
         Ok((YoungestQueue { rt, stack, seats }, made))
     }
@@ -65,18 +60,17 @@ impl<R: Wait + Sync> Waiters for YoungestQueue<'_, R> {
 
     fn enter(&self, seat: &mut NotedSeat, turn: Turn) -> Arrival<Turn> {
         if self.stack.lock(self.rt).enter() {
-            self.seats
-                .note(seat, QueueCall::Enter(turn, Entered::First));
+            self.seats.note(seat, Call::Enter(turn, Entered::First));
             return Arrival::First;
         }
         self.seats
-            .note(seat, QueueCall::Enter(turn, Entered::Behind(turn)));
+            .note(seat, Call::Enter(turn, Entered::Behind(turn)));
         Arrival::Behind(turn)
     }
 
     fn link(&self, seat: &mut NotedSeat, place: Turn, own: Turn) {
         self.stack.lock(self.rt).link(own);
-        self.seats.note(seat, QueueCall::Link(place, own));
+        self.seats.note(seat, Call::Link(place, own));
     }
 
     fn next<W: Wait>(&self, rt: &W, seat: &mut NotedSeat, own: Turn) -> Option<Turn> {
@@ -84,17 +78,17 @@ impl<R: Wait + Sync> Waiters for YoungestQueue<'_, R> {
             Some(turn) if self.seats.has(turn.thread) => Some(turn),
             _ => None,
         };
-        self.seats.note(seat, QueueCall::Next(own, next));
+        self.seats.note(seat, Call::Next(own, next));
         next
     }
 
     fn leave<W: Wait>(&self, rt: &W, seat: &mut NotedSeat, own: Turn) -> Departure {
         if self.stack.lock(rt).leave() {
-            self.seats.note(seat, QueueCall::Leave(own, Leave::Left));
+            self.seats.note(seat, Call::Leave(own, Leave::Left));
             return Departure::Left;
         }
         self.seats
-            .note(seat, QueueCall::Leave(own, Leave::Followed(None)));
+            .note(seat, Call::Leave(own, Leave::Followed(None)));
         Departure::Followed
     }
 }

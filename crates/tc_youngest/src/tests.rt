@@ -8,7 +8,7 @@ use std::process::Abort;
 use std::sync::Wait;
 use std::test::*;
 use tc_queue::{Arrival, Departure, Turn, Waiters};
-use tc_seats::NotedSeat;
+use tc_seats::{NotedSeat, QueueMaker};
 
 /// The first turn of a thread.
 fn turn(thread: u32) -> Turn
@@ -77,7 +77,8 @@ fn take_turns<R: Abort + Wait + Sync>(
 
 #[test]
 fn two_seats(rt: HostRuntime) -> Result<(), Fail> {
-    let (queue, seats) = YoungestQueue::new(&rt, rt.alloc(), 2, 2, 1)?;
+    let order = Youngest { rt: &rt, bound: 1 };
+    let (queue, seats) = order.make(rt.alloc(), 2, 2)?;
     let mut seats = seats.into_iter();
     let mut zero = seats.next().expect(&rt, "the first seat");
     let mut one = seats.next().expect(&rt, "the second seat");
