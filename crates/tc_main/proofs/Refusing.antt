@@ -1,10 +1,9 @@
 -- Which bytes are refused.
-use Rattle.std.proofs.Common.{◌≡◌, ◌≢◌, ℕ, ◌<◌, ◌≤◌, Bool, nat_lt, if◌then◌else◌, List, length, take, Option, Some, None, inl, inr, refl, sym, ap, ◌∙◌, arith}
+use Rattle.std.proofs.Common.{◌≡◌, ◌≢◌, ℕ, ◌<◌, ◌≤◌, Bool, nat_lt, if◌then◌else◌, List, length, Option, Some, None, inl, inr, refl, sym, ap, ◌∙◌, arith}
 use Rattle.std.specs.Prelude.{option_map}
 use Rattle.std.proofs.lemmas.Bool.{le-ltb, lt-ltb}
 use Rattle.std.proofs.lemmas.Option.{none-some}
 use Rattle.tc_io.specs.Stream.{Stream}
-use Rattle.tc_isa.specs.declared.options.Options.{Options}
 use Rattle.tc_main.specs.Refusals.{NamedRefusal, file_refusal, least_of, named, refusal_of, short_input, too_large}
 use Rattle.tc_main.specs.Top.{HasRead, IsTextOf, ReadsAll, ReadsEnough, Rejects}
 use Rattle.tc_main.specs.Words.{FileAndHistory, GuestFile, Needs, Nothing, most_of, needs_of}
