@@ -10,22 +10,29 @@ import shutil
 import subprocess
 from pathlib import Path
 
-from tools.workbench import command
+from tools.workbench import command, limits
 from tools.workbench.checking import definitions
 from tools.workbench.guest import guestfile
 from tools.workbench.running import delegation
-from .common import (ANSWERS, COMPILER, COURSE, DOCS, GUESTS, MADE_UP, ROOT, TEMPORARY, Case, elf, process,
+from .common import (ANSWERS, COMPILER, COURSE, DOCS, GUESTS, MADE_UP, NAMES, ROOT, TEMPORARY, Case, elf, process,
                      run, saved, script)
 
 
 PICTURES = DOCS / "pictures"
 CRATE_PAGES = sorted(ROOT.glob("crates/*/README.md"))
-PAGES = [*ROOT.glob("*.md"), *DOCS.rglob("*.md"), GUESTS / "README.md", ROOT / "bench" / "README.md", *CRATE_PAGES]
-BEGINS = re.compile(r"\(?(cat|for|make|done|echo) ?|\./(workbench|tclocks)[ -]|  |$")
+GUIDE = DOCS / "GUIDE.md"
+DESIGN = DOCS / "DESIGN.md"
+README, VERIFICATION = ROOT / "README.md", DOCS / "VERIFICATION.md"
+PAGES = [*ROOT.glob("*.md"), *DOCS.rglob("*.md"), GUESTS / "README.md", *(ROOT / "bench").rglob("*.md"), *CRATE_PAGES]
+BEGINS = re.compile(r"\(?(cat|for|make|done|echo|printf) ?|\./(workbench|tclocks)[ -]|  |$")
 LEFT_OUT = re.compile(r"\./tclocks-build|\./workbench (check|fuzz|refuse|endure|facts|bench)\b|\brt |make .*(-B|CC=)|PATH/TO|\.\.(?!/)"
                       r"|\b(GUEST|REPORT|FOLDER|FILE|HISTORY|RULE|NAME|W F B|G K)\b|apt-get|git |sums$|same$|\[|tclocks (demo|gen|nodes)|(?<!/)my\.elf"
                       r"|^\./(workbench|tclocks) [a-z]+$|^\./workbench judge \S+$|1 F B")
-KEPT = {"counter": "counter", "philosophers": "philosophers", "first": "first", "first-alone": "first"}
+KEPT = {"counter": "counter", "philosophers": "philosophers", "first": "first", "first-alone": "first",
+        "by-waiter": "first", "by-holder": "first", "by-server": "first"}
+COURSE_PAGE, KEY = DOCS / "COURSE.md", ANSWERS / "README.md"
+WORDS = {GUIDE: 5500, COURSE_PAGE: 7500, KEY: 3300, DESIGN: 7500, README: 1600, VERIFICATION: 3500,
+         GUESTS / "README.md": 150}  # of a page, at most
 
 
 class Kept(Case):
@@ -34,28 +41,93 @@ class Kept(Case):
             said = "legal so far, 200 blocks" if name == "counter" else "a legal run, to the end of every thread"
             self.says(said, run("judge", elf(guest), PICTURES / f"{name}.txt"))
         subprocess.run([PICTURES / "make", TEMPORARY], check=True, stderr=subprocess.DEVNULL)
-        for name in (*KEPT, "overview", "stays", "sweep"):
+        for name in (*KEPT, "overview", "stays", "sweep", "orders"):
             self.assertEqual((PICTURES / f"{name}.svg").read_bytes(), (TEMPORARY / f"{name}.svg").read_bytes(), name)
 
     def test_lines_of_the_delegated_history(self) -> None:
-        page = (DOCS / "TEACHING.md").read_text()
-        part = page[page.index("## A delegated history, line by line"):page.index("## Exercises")]
-        lines = re.findall("^block .*$", part, re.M)
+        page = COURSE_PAGE.read_text()
+        lines = [line for title in ("### A delegated history, line by line", "### Shipped with a lock in hand")
+                 for line in re.findall("^block .*$", page[page.index(title):].split("\n### ")[0], re.M)]
         kept = [(PICTURES / f"{name}.txt").read_text().splitlines() for name in ("counter", "philosophers")]
-        self.assertGreater(len(lines), 20)
+        self.assertEqual(len(lines), 18)
         for line in lines:
             self.assertTrue(any(line in report for report in kept), line)
 
     def test_tables_and_lanes(self) -> None:
-        summary = run("summary", PICTURES / "philosophers.txt").stdout.decode()
-        self.assertIn(summary, (GUESTS / "README.md").read_text())
+        summary = run("summary", PICTURES / "philosophers.txt").stdout.decode().splitlines(keepends=True)
+        self.assertIn("```\n" + "".join(summary[2:4]) + "```", GUIDE.read_text())
         contexts = ("--block", "108", "--contexts")
-        for words, page, count in ((("--trace", "108"), GUESTS / "README.md", 11), (contexts, GUESTS / "README.md", 3),
-                                   (contexts, DOCS / "TEACHING.md", 2)):
+        for words, page, first, count in ((("--trace", "108"), GUIDE, 4, 1), (contexts, GUIDE, 2, 2),
+                                          (contexts, COURSE_PAGE, 2, 2)):
             said = run("explain", elf("counter"), PICTURES / "counter.txt", *words).stdout.decode().splitlines()
-            self.assertIn("\n" + "\n".join(said[2:2 + count]) + "\n", page.read_text())
+            self.assertIn("\n" + "\n".join(said[first:first + count]) + "\n", page.read_text())
         lanes = run("draw", PICTURES / "first.txt", "--text").stdout.decode().split("\n\n")[1]
-        self.assertIn(lanes, (DOCS / "GUEST.md").read_text())
+        self.assertIn(lanes, GUIDE.read_text())
+
+
+class Course(Case):
+    def test_each_exercise_has_its_minutes_and_its_answer(self) -> None:
+        page, named = COURSE_PAGE.read_text(), r"(?m)^\*\*(\d+\. [^*]+)\*\*"
+        exercises = re.findall(named, page)
+        self.assertEqual([int(one.split(".")[0]) for one in exercises], [*range(1, 19)])
+        self.assertEqual(re.findall(named, KEY.read_text()), exercises)
+        row = r"(?m)^\| \[\d\. [^|]*\|[^|]*\| \d+ \|([^|]*)\|$"
+        timed = [int(number) for cell in re.findall(row, page) for number in re.findall(r"(\d+) \(\d+", cell)]
+        self.assertEqual(timed, [*range(1, 19)])
+
+    def test_first_listing_is_what_its_command_prints(self) -> None:
+        shown = re.search(r"(?s)```\n(tclocks 2\n.*?end\n)```", COURSE_PAGE.read_text())[1]  # type: ignore[index]
+        printed = self.well("simulate", elf("first"), "1", "42", "0")
+        lines = [line for line in printed.splitlines(keepends=True) if not line.startswith("x")]
+        before, after = shown.split("...\n")
+        self.assertTrue("".join(lines).startswith(before) and "".join(lines).endswith(after))
+        self.assertEqual(before.count("block ") + after.count("block ") + 3, 12)
+
+    def test_what_moves(self) -> None:
+        """The table of the three histories by hand, by what `profile` counts."""
+        for name in ("by-waiter", "by-holder", "by-server"):
+            said = run("replay", elf("first"), PICTURES / f"{name}.txt", "--profile", "--model").stdout.decode()
+            changes, moves = (sum(map(int, re.findall(rf"{word} (\d+)", said))) for word in ("changes", "moves"))
+            self.assertIn(f"| [{name}](pictures/{name}.txt) | {changes} times | {moves} times |", COURSE_PAGE.read_text())
+
+    def test_nobody_waits_while_the_holder_serves(self) -> None:
+        """Two histories of exercise 8: with batch limit 0, and one that can't be."""
+        said = re.search(r"`(worker 0 released [^`]*)`", KEY.read_text())[1]  # type: ignore[index]
+        text = (PICTURES / "by-holder.txt").read_text()
+        wrong = re.sub("(block 6 .*)taken", r"\1granted", text)
+        self.one_line(run("judge", elf("first"), given=wrong), 3, said)
+        granted = text.replace("batch 1", "batch 0").replace("adopted", "granted")
+        self.says("a legal run, to the end of every thread", run("judge", elf("first"), given=granted))
+
+    def test_means_of_the_orders(self) -> None:
+        """The table of exercise 18, by the command that the page gives."""
+        for bound, orders in (16, ["youngest"]), (256, ["entry", "nodes", "youngest"]):
+            words = ("--runs", "10", "--bound", str(bound))
+            rows = [*csv.DictReader(self.well("orders", elf("counter"), *words).splitlines())]
+            for order in orders:
+                means = (sum(int(row[name]) for row in rows if row["order"] == order) / 10
+                         for name in ("adopted", "granted", "changes", "waiting", "longest_wait"))
+                name = order if order == "entry" else f"{order}, {bound}"
+                self.assertIn(f"\n| {name} | {' | '.join(f'{mean:.1f}' for mean in means)} |\n", KEY.read_text())
+
+    def test_table_of_grades(self) -> None:
+        """It is that of the guest of exercise 7 as it is given and as it is answered."""
+        place = TEMPORARY / "grades"
+        place.mkdir()
+        shutil.copy(COURSE / "pair.elf", place / "given.elf")
+        shutil.copy(ANSWERS / "pair.elf", place / "answered.elf")
+        said = self.well("grade", place, "--never", "lock 3 word 0 != lock 3 word 1", "--reach", "lock 3 word 0 == 3")
+        shown = re.search(r"(?s)```\n(guest  .*?)```", COURSE_PAGE.read_text())[1]  # type: ignore[index]
+        self.assertEqual([line.split() for line in said.splitlines()], [line.replace(".c ", ".elf ").split() for line in shown.splitlines()])
+
+    def test_sections_of_the_second_exercise(self) -> None:
+        found = re.findall(r"(\w+): (\d+) of (\d+) turns|(\w+): (\d+) of (\d+) \(", KEY.read_text().split("**3. ")[0])
+        self.assertEqual(len(found), 4)
+        for row in found:
+            name, held, whole = (word for word in row if word)
+            blocks = re.findall(r"turns (\d+) held (\S+) ", self.well("simulate", elf(name.lower()), "1", "20000", "0"))
+            self.assertEqual((sum(int(turns) for turns, locks in blocks if locks != "-"), sum(int(turns) for turns, _ in blocks)),
+                             (int(held), int(whole)), name)
 
 
 def anchors(page: Path) -> list[str]:
@@ -80,10 +152,190 @@ class Pages(Case):
                 if anchor:
                     self.assertIn(anchor, anchors(found), f"{page.name}: {target}")
 
-    def test_the_main_proofs_are_few(self) -> None:
-        text = (DOCS.parent / "README.md").read_text()
-        rows = text[text.index("## What is proved"):text.index("## What is neither")].count("\n| ") - 1
-        self.assertTrue(6 <= rows <= 12, rows)
+    def test_pages_are_short(self) -> None:
+        for page, most in WORDS.items():
+            self.assertLessEqual(len(page.read_text().split()), most, page)
+
+
+class Contracts(Case):
+    """What the pages name and quote of the contracts stands there, and the top call is told whole."""
+
+    def test_they_stand_where_the_pages_say(self) -> None:
+        for page, least in (README, 8), (VERIFICATION, 45), (DESIGN, 20), (COURSE_PAGE, 2), (KEY, 1), (GUIDE, 1):
+            named = re.findall(r"`(\w+)`, \[(crates/[^\]]+):(\d+)\]\((?:\.\./)*(crates/[^)]+)\)", page.read_text())
+            self.assertGreaterEqual(len(named), least, page)
+            for name, path, line, target in named:
+                is_there = re.compile(rf"\b(fn|ensures|record|pub) {name}\b")
+                there = [at for at, text in enumerate((ROOT / path).read_text().splitlines(), 1) if is_there.search(text)]
+                self.assertIn(int(line), there, f"{page.name}: {name} of {path}")
+                self.assertEqual(path, target)
+
+    def test_quotes_are_those_of_the_files(self) -> None:
+        """But for comments and breaks of lines, each stands in a file that the page names."""
+        for page, count in (README, 1), (VERIFICATION, 6):
+            text = page.read_text()
+            files = {ROOT / path for path in re.findall(r"\[(crates/[^\]]+):\d+\]", text)}
+            there = [re.sub(r"\s+", " ", re.sub(r"(?m)^ *(//|--) .*\n", "", file.read_text())) for file in files]
+            quotes = re.findall(r"(?s)```(?:antt|rt)\n(.*?)```", text)
+            self.assertEqual(len(quotes), count)
+            for quote in quotes:
+                self.assertTrue(any(re.sub(r"\s+", " ", quote).strip() in file for file in there), quote)
+
+    def test_each_clause_and_field_is_told(self) -> None:
+        text = VERIFICATION.read_text()
+        call = (ROOT / "crates/tc_main/src/top.rt").read_text().split("pub fn tclocks")[1]
+        legal = (ROOT / "crates/tc_report/specs/Legal.antt").read_text().split("record IsLegalRun")[1]
+        names = [*re.findall(r"ensures (\w+) ", call), *re.findall(r"  pub (\w+) : ", legal)]
+        for law in "tc_core/src/theorem.rt", "tc_core/src/alive.rt", "tc_main/src/round_trip.rt", "tc_main/src/delegation.rt":
+            names += re.findall(r"ensures (\w+) ", (ROOT / "crates" / law).read_text())
+        self.assertGreater(len(names), 45)
+        for name in {*names} - {"last", "written", "turns", "accepted", "whole", "goes"}:  # these are quoted or in words
+            self.assertIn(f"`{name}`", text)
+
+    def test_limits_of_the_main_theorems_stand_in_their_order(self) -> None:
+        proved, limits_of_it = (re.findall(r"(?m)^- \*\*(.*?)\.\*\*", part_of(README, f"## {title}"))
+                                for title in ("What is proved", "What is not proved"))
+        self.assertTrue(4 <= len(proved) <= 6, proved)
+        self.assertEqual(limits_of_it[:len(proved)], proved)
+
+    def test_numbers_of_the_bench(self) -> None:
+        """The README has the least and the greatest ratio to a peer that prints the history too."""
+        rows = re.findall(r"(?m)^\| [\w, -]+ \| [^|]+ \| (.*) \|$", part_of(ROOT / "bench" / "README.md", "## Beside ordinary mutexes"))
+        ratios = sorted(re.findall(r"\d\.\d\d", " ".join(rows)), key=float)
+        self.assertGreater(len(ratios), 6)
+        self.assertIn(f" {ratios[0]} to {ratios[-1]} times ", README.read_text())
+
+    def test_lines_of_the_picture(self) -> None:
+        lines = re.findall(r"(?m)^block .*$", README.read_text())
+        self.assertEqual(len(lines), 2)
+        self.assertLessEqual({*lines}, {*(PICTURES / "counter.txt").read_text().splitlines()})
+
+    def test_mutants_are_few(self) -> None:
+        for crate in (ROOT / "crates").iterdir():
+            self.assertLessEqual(len([*crate.glob("must-fail/*.edit")]), 8, crate.name)
+
+
+class Guide(Case):
+    """The guide has the forms, limits, refusals, tools and guests that the tools know, and its first guest is the one there."""
+
+    def test_arguments_and_their_limits(self) -> None:
+        text = GUIDE.read_text()
+        self.assertIn(limits.USAGE.replace("|", "\\|"), text)
+        for shape in limits.SHAPES:
+            self.assertIn(f"\n| `{shape}` |", text)
+        for name in "workers", "fuel", "batch", "rounds", "bound", "size":
+            self.assertIn("({:,} to {:,})".format(*limits.NUMBERS[name]), text, name)
+        for most in limits.FILE_BYTES, limits.HISTORY_BYTES, limits.GUARD_BYTES[1], limits.TURNS:
+            self.assertIn(f"{most:,}", text)
+
+    def test_refusals_calls_kinds_faults_and_statuses(self) -> None:
+        text = GUIDE.read_text()
+        for number, name in (*enumerate(limits.REFUSALS), (17, "ShortInput")):
+            self.assertIn(f"\n| {number} | {name} | ", text)
+        for number, call in limits.CALLS.items():
+            self.assertRegex(text, rf"\n\| {number} \| {call}( x10)? \| ")
+        for kind in limits.KINDS:
+            self.assertIn(f"`{kind}`", text)
+        for begin, end, numbers in ("### Faults", "### Fuel", range(1, 13)), ("## Statuses", "## Tools", range(limits.REJECTED + 1)):
+            rows = re.findall(r"(?m)^\| (\d+) \| ", text[text.index(begin):text.index(end)])
+            self.assertEqual(rows, [*map(str, numbers)])
+
+    def test_tools(self) -> None:
+        """Each has its line, in the groups of --help."""
+        text = GUIDE.read_text()
+        tools = text[text.index("## Tools"):text.index("### Examples")]
+        groups = re.findall(r"(?m)^\*\*([a-z ]+)\*\*", tools)
+        self.assertEqual(groups, list(dict.fromkeys(one.group for one in command.EVERY.values())))
+        for group, part in zip(groups, re.split(r"(?m)^\*\*[a-z ]+\*\*", tools)[1:]):
+            named = {word.split(" ")[0] for word in re.findall(r"`([^`]+)`", part)}
+            for one in command.EVERY.values():
+                self.assertTrue(one.group != group or named >= set(one.name.split()), one.name)
+
+    def test_guests(self) -> None:
+        rows = re.findall(r"(?m)^\| \[(\w+)\]\(\.\./guests/\w+\.[cS]\) \| (\d+), (\d+) \|", GUIDE.read_text())
+        self.assertEqual(sorted(name for name, _, _ in rows), NAMES)
+        for name, threads, guards in rows:
+            guest = guestfile.load(elf(name)).guest
+            self.assertEqual((len(guest.entries), len(guest.guards)), (int(threads), int(guards)), name)
+
+    def test_the_first_guest(self) -> None:
+        text = GUIDE.read_text()
+        source = (GUESTS / "first.c").read_text().partition("\n")[2]
+        self.assertIn(f"```c\n{source}```", text)
+        report = (PICTURES / "first-alone.txt").read_text().splitlines()
+        lines = re.search(r"(?s)```\n(tclocks 2\n.*?\n)```", text)[1].splitlines()  # type: ignore[index]
+        self.assertEqual([line for line in report if line in lines], lines)
+        early = run("simulate", elf("first"), "1", "30", "0").stdout.decode()
+        self.assertEqual(early.count(" end spent\n"), 2)
+        self.assertIn(f"`{re.search('(?m)^lock 0 .*$', early)[0]}`", text)  # type: ignore[index]
+
+
+def part_of(page: Path, title: str) -> str:
+    """What stands under a heading, up to the next one of its level or above."""
+    level = title.split(" ")[0]
+    return re.split(rf"(?m)^#{{1,{len(level)}}} ", page.read_text().split(f"\n{title}\n")[1])[0]
+
+
+class Design(Case):
+    """The page for whoever changes the code has the crates, calls, files and contracts that there are."""
+
+    CRATES = {line.split(":")[0].split()[0]: line.split(":")[1].split()
+              for line in (ROOT / "crates.txt").read_text().splitlines() if ":" in line and line[0].islower()}
+    FILES = [*ROOT.glob("crates/*/src/*.rt"), *ROOT.glob("crates/*/specs/*.antt")]
+
+    def test_each_crate_stands_above_what_it_uses(self) -> None:
+        rows = re.findall(r"(?m)^\| \[(\w+)\]\(\.\./crates/(\w+)/", part_of(DESIGN, "## The crates"))
+        named = [name for name, folder in rows if name == folder]
+        self.assertEqual(sorted(named), sorted(self.CRATES))
+        figure = part_of(DESIGN, "## The way of the data").split("```")[1].splitlines()
+        place = {word: -at for at, line in enumerate(figure) for word in line.split() if word in self.CRATES}
+        self.assertGreater(len(place), 25)
+        for name, uses in self.CRATES.items():
+            for below in {*uses} & {*named}:
+                self.assertLess(named.index(below), named.index(name))
+                self.assertTrue(name not in place or place[below] < place[name], f"{name} stands on {below}")
+
+    def test_calls_of_an_adopted_section(self) -> None:
+        there = {name for file in self.FILES for name in re.findall(r"\bfn (\w+)", file.read_text())}
+        rows = re.findall(r"(?m)^\| \d+ \| [01] \|([^|]*)\|([^|]*)\|([^|]*)\|$",
+                          part_of(DESIGN, "## One adopted section, call by call"))
+        self.assertEqual(len(rows), 14)
+        named = {word for row in rows for word in re.findall(r"`(?:\w+::)?([a-z]\w+)`", row[0])}
+        self.assertEqual(named - there, set())
+        events = {word for row in rows for word in re.findall(r"`(\w+)`", row[2])}
+        self.assertLessEqual(events, set(self.events()))
+
+    def events(self) -> list[str]:
+        return re.findall(r"(?m)^    (\w+) \{", (ROOT / "crates/tc_core/src/event.rt").read_text())
+
+    def test_events_and_clauses(self) -> None:
+        """Each event has its row, and each clause of the theorems on lists of events has one."""
+        rows = re.findall(r"(?m)^\| `(\w+)` \|[^|]*\|[^|]*\|$", part_of(DESIGN, "### Events"))
+        self.assertEqual(rows, self.events())
+        for law in "tc_core/src/theorem.rt", "tc_core/src/alive.rt", "tc_told/src/realization.rt":
+            clauses = re.findall(r"ensures (\w+) ", (ROOT / "crates" / law).read_text())
+            named = re.findall(rf"(?m)^\| `(\w+)`, \[crates/{law}:", DESIGN.read_text())
+            self.assertEqual(sorted(named), sorted(clauses))
+
+    def test_places_of_changes(self) -> None:
+        rows = re.findall(r"(?m)^\| [^|]* \| ([^|]*) \|$", part_of(DESIGN, "## Where a change belongs"))
+        self.assertGreater(len(rows), 25)
+        for row in rows:
+            for crate, names in re.findall(r"(tc_\w+) ((?:`\w+`(?:, )?)+)", row):
+                for name in re.findall(r"\w+", names):
+                    file = f"specs/{name}.antt" if name[0].isupper() else f"src/{name}.rt"
+                    self.assertTrue((ROOT / "crates" / crate / file).exists(), f"{crate} {name}")
+            for name in re.findall(r"[\w/]+\.(?:py|c)\b", row):
+                places = ROOT / name, ROOT / "tools" / "workbench" / name
+                self.assertTrue(any(place.exists() for place in places), name)
+
+    def test_words_of_the_code(self) -> None:
+        self.assertLessEqual(part_of(DESIGN, "## Words").count("\n| "), 62)
+        rows = re.findall(r"(?m)^\| ([^|`]+?)(?: \((`[^)]*)\))? \|", part_of(DESIGN, "### Other words"))[1:]
+        self.assertEqual([word for word, _ in rows], sorted((word for word, _ in rows), key=str.lower))
+        text = "".join(file.read_text() for file in self.FILES)
+        for name in re.findall(r"`(\w+)`", "".join(names for _, names in rows)):
+            self.assertRegex(text, rf"\b{name}\b")
 
 
 def counted(crate: Path) -> tuple[int, int, int]:
@@ -273,8 +525,10 @@ class Guests(Case):
 
     def test_history_on_nodes(self) -> None:
         """It is legal, and its sections stand as a line picks them with the bound 2, and with no other."""
-        text = re.search(r"(?s)```\n(tclocks 2\nguest threads 8 .*?)```", (ROOT / "docs" / "TEACHING.md").read_text())[1]  # type: ignore[index]
-        self.says("legal so far, 16 blocks", run("judge", elf("counter"), given=text))
+        text = re.search(r"(?s)```\n(run workers 4 fuel 20000 batch 8\nthread .*?)```", COURSE_PAGE.read_text())[1]  # type: ignore[index]
+        done = run("finish", elf("counter"), given=text)
+        self.says("legal so far, 16 blocks", done)
+        text = done.stdout.decode()
         found = re.findall(r"thread (\d) .* kind adopted worker 0 ", text)
         for bound in range(6):
             hall = delegation.Hall(guestfile.load(elf("counter")).guest, 4, 100, 8, 0, nodes=2, bound=bound)

@@ -243,7 +243,7 @@ class Use(Case):
         self.assertRegex(done.stderr.decode(), r"^workbench explore: some \d+ states are expected, .*; at most 1,000,000 are searched")
         for text in "interleaving: 2 outcomes, ", "word 0 (00100000): 33 (0x21)", "word 0 (00100000): 73 (0x49)":
             self.says(text, done)
-        self.assertIn(f"```\n{done.stdout.decode()}```\n", (ROOT / "docs/EXPLORE.md").read_text())
+        self.assertIn(f"```\n{done.stdout.decode()}```\n", (ROOT / "docs/COURSE.md").read_text())
 
     def test_samples_do_not_see_it(self) -> None:
         done = run("explore", elf("stale"), "--runs", "20", "--model")

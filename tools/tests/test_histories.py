@@ -350,11 +350,10 @@ class Exercise(Case):
             text = run("finish", elf("first"), "-", "--on", given=lines.replace(*change)).stdout
             self.says(wanted, run("replay", elf("first"), "-", "--profile", given=text))
 
-    def test_names_are_those_of_the_pages(self) -> None:
-        for page in "TEACHING.md", "REPORT.md":
-            named = re.findall(r"(?m)^\| (\d) \| ([A-Z]\w+) \|", (DOCS / page).read_text())
-            for number, name in enumerate(limits.REASONS, 1):
-                self.assertIn((str(number), name), named)
+    def test_names_are_those_of_the_page(self) -> None:
+        named = re.findall(r"(?m)^\| (\d) \| ([A-Z]\w+) \|", (DOCS / "GUIDE.md").read_text())
+        for number, name in enumerate(limits.REASONS, 1):
+            self.assertIn((str(number), name), named)
 
 
 class Tool(Case):

@@ -1,4 +1,4 @@
-"""The numbers and words of docs/GUEST.md and docs/REPORT.md, each in this place alone."""
+"""The numbers and words of docs/GUIDE.md, each in this place alone."""
 FILE_BYTES = 1048576  # of a guest's file, and of the memory that it asks for
 PROGRAM_HEADERS = 16
 THREADS = {1: 16, 2: 32}  # the most, by the version of a note or of a report

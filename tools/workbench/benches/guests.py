@@ -1,4 +1,4 @@
-"""Makes the guests of the bench: ELF32 files of the form of docs/GUEST.md, of words of code that
+"""Makes the guests of the bench: ELF32 files of the form of docs/GUIDE.md, of words of code that
 rv32im.py makes of mnemonics and operands."""
 from __future__ import annotations
 

@@ -1,9 +1,9 @@
 /* A peer to measure beside the program: the same guests under ordinary mutexes.
 
-   peer FUEL [history] < GUEST runs a guest's file (docs/GUEST.md). Each thread of the guest is a thread
+   peer FUEL [history] < GUEST runs a guest's file (docs/GUIDE.md). Each thread of the guest is a thread
    of the host, each lock a pthread mutex, and nothing is delegated: a thread that wants a lock waits for
    its mutex and runs its section itself. What the two have in common is what the guest sees, and the log:
-   each thread keeps its blocks, which end by the rule of docs/REPORT.md and have stamps of one clock. A
+   each thread keeps its blocks, which end by the rule of docs/GUIDE.md and have stamps of one clock. A
    lock has no journal. SLEEP ends a block and does not wait.
 
    It prints a report without the lines of the blocks, and with the word history a whole one: that of a
@@ -24,7 +24,7 @@ enum { LOCK = 1, UNLOCK = 2, SLEEP = 3, EXIT = 93 }; /* guest calls, by x17 */
 enum { ECALL = 0x73, EBREAK = 0x100073 };
 enum { NOBODY = -1 };
 
-/* The faults of docs/GUEST.md, from 1 on. */
+/* The faults of docs/GUIDE.md, from 1 on. */
 enum fault { ILLEGAL = 1, FETCH, TARGET, LOAD, STORE, WIDTH, UNGUARDED, BREAK, BAD_CALL, BAD_LOCK, ORDER, NOT_HELD };
 
 /* How a block ends; WENT where it doesn't. Behind SPENT the thread has ended too. */

@@ -3,7 +3,7 @@
 1000 runs in a row where RUNS is left out; the largest guest on 8 workers; a reader that ends in the
 middle, a full disk, closed standard streams, little memory, and a signal in the middle of a run; and
 a history that is given back to a full disk, in little memory, and behind more bytes than may stand there.
-Each must end as docs/REPORT.md says, and leave no process and no file. The peak memory of the last
+Each must end as docs/GUIDE.md says, and leave no process and no file. The peak memory of the last
 runs in a row must be that of the first ones, and that of the largest guest no more than
 bench/README.md says.
 

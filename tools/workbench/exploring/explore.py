@@ -3,7 +3,7 @@ guarded words. Faults come first.
 
 With --all it searches every interleaving, and prints each outcome with how many blocks a shortest
 history of it has. --reach RULE asks for a history to an end of which a rule holds, and --never RULE
-whether there is none. docs/EXPLORE.md tells of rules, and of why nothing is missed.
+whether there is none. docs/COURSE.md tells of rules, and of why nothing is missed.
 
 Else it looks at samples: N runs by the program, with several numbers of workers and batch limits, where
 it is built, and N by model.py, in interleavings that are drawn from seeds.

@@ -3,7 +3,7 @@
 The guests are the .elf files of the folder and of those in it, and the .c and .S files, which are built with
 the kit in a folder of their own; an .elf file beside its source is not looked at. --never RULE is right where
 RULE holds at the end of no interleaving, --reach RULE where it does at the end of one. ./workbench explore searches,
-and docs/EXPLORE.md tells of rules. With --keep FOLDER a history is written of each end that was found.
+and docs/COURSE.md tells of rules. With --keep FOLDER a history is written of each end that was found.
 
   holds         no interleaving breaks the rule    broken      one does
   reachable     one ends so                        never       none does

@@ -3,7 +3,7 @@
 A state is the names of its parts, one for each thread and one for each lock; a part's name is a digest
 of its content. So equal parts have one name, a step copies names alone, and what a section comes to is
 computed once for all states in which its thread's part and the words of locks that it reads are the
-same. docs/EXPLORE.md says which interleavings these steps stand for, and why that is all of them.
+same. docs/COURSE.md says which interleavings these steps stand for, and why that is all of them.
 """
 from __future__ import annotations
 

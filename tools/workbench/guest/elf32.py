@@ -1,4 +1,4 @@
-"""Guest files as bytes: the one reader and the one writer of ELF32. docs/GUEST.md has the form; what is
+"""Guest files as bytes: the one reader and the one writer of ELF32. docs/GUIDE.md has the form; what is
 refused is told by guestfile.py."""
 from __future__ import annotations
 

@@ -1,6 +1,6 @@
 """A guest's file as a whole: why the program refuses it, its symbols, what an address is.
 
-The refusals are those of docs/REPORT.md, in their order; each is told with the numbers that
+The refusals are those of docs/GUIDE.md, in their order; each is told with the numbers that
 disagree. What an accepted file means is model.Guest.
 """
 from __future__ import annotations

@@ -1,4 +1,4 @@
-"""A guest's threads under ordinary mutexes, in plain Python, written from docs/GUEST.md.
+"""A guest's threads under ordinary mutexes, in plain Python, written from docs/GUIDE.md.
 
 ./workbench check compares what the program ./tclocks prints with this model, and ./workbench facts
 counts turns by it. It shares no code with the program. It takes files that the program

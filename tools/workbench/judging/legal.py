@@ -238,7 +238,7 @@ def replay_whole(guest: model.Guest, text: str) -> model.Machine:
 JUDGE = """Says whether a report is that of a legal run, or which block or line is not, and why.
 
 A report that stops behind a block line is judged so far. The statuses are those of
-guests/README.md: 0 where it is legal, 3 where it isn't.
+docs/GUIDE.md: 0 where it is legal, 3 where it isn't.
 
 What the program's theorem says of each report that it writes, the judge asks of this one: that the
 history is a run under ordinary mutexes, that sections obey the batch rule and are passed on to other

@@ -1,5 +1,5 @@
 """What the program answers to `replay` and to `profile`, by model.py: a guest's file and a history are
-read as docs/REPORT.md says, and the history is run again under ordinary mutexes, block by block.
+read as docs/GUIDE.md says, and the history is run again under ordinary mutexes, block by block.
 
 legal.py asks for more than the seven reasons do: that who was adopted or granted a lock can have waited,
 and that a cut parts no thread from its worker.
