@@ -1,4 +1,4 @@
-use crate::all::{ReadAll, read_all, write_all};
+use crate::all::{LIMIT, ReadAll, read_all, write_all};
 use crate::memory::{MemSink, MemSource};
 use crate::source::{Failed, Sink, Source};
 use crate::word::Word;
@@ -44,6 +44,18 @@ fn reads_all_to_the_end_or_says_why(rt: HostRuntime) -> Result<(), Fail> {
             "at most {most}, limit {limit}"
         );
         assert_eq!(rt; source.faults(), faults, "at most {most}, limit {limit}");
+    }
+    Ok(())
+}
+
+/// Room is taken for what is read, and not for all that may be.
+#[test]
+fn room_grows_with_what_is_read(rt: HostRuntime) -> Result<(), Fail> {
+    let bytes = Vec::from_slice(rt.alloc(), b"12345")?;
+    let mut source = MemSource::new(bytes, 8, Vec::new(rt.alloc()));
+    match read_all(rt.alloc(), &mut source, LIMIT) {
+        Ok(read) => assert!(rt; read.capacity() <= 8_192),
+        Err(_) => assert!(rt; false, "five bytes are read"),
     }
     Ok(())
 }
