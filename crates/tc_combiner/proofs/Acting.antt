@@ -137,7 +137,7 @@ module _ {A : Type 0} (items : A → List Item) (is : PassView → A → Type 0)
 
 pub ready_append : (cs ds : List PassCall) → ready_in (cs ++ ds) ≡ ready_in cs ++ ready_in ds
 ready_append [] ds = refl
-ready_append (Put t Ready ls g ∷ cs) ds = ap (λ (l : List ℕ). t ∷ l) (ready_append cs ds)
+ready_append (Put t Ready ls g n ∷ cs) ds = ap (λ (l : List ℕ). t ∷ l) (ready_append cs ds)
 ready_append (c ∷ cs) ds = ready_append cs ds
 
 -- ---- the threads that were put as ready

@@ -36,7 +36,7 @@ packed (Some q) = Pack q ∷ []
 -- the threads that these calls put as ready, in order
 abbrev pub ready_in : List PassCall → List ℕ
 ready_in [] = []
-ready_in (Put t Ready ls g ∷ cs) = t ∷ ready_in cs
+ready_in (Put t Ready ls g n ∷ cs) = t ∷ ready_in cs
 ready_in (c ∷ cs) = ready_in cs
 
 -- these calls are questions of this turn alone

@@ -338,7 +338,7 @@ module _ (k : HallTerms) where
       joined_below (suc f) u p e = p.joined f u e
 
       told_true : (f : ℕ) (c : PassCall) → IsPass k.image.value k.workers r.told.history s.words w → get_elem? w.calls f ≡ some c → IsTrueCall s.words c
-      told_true f (Put t place numbers given) p e = tt
+      told_true f (Put t place numbers given turns) p e = tt
       told_true f (Free i) p e = tt
       told_true f (Look t found) p e = λ is. p.done f t (e ∙ ap (λ (z : ℕ). some (Look t z)) is)
       told_true f Stop p e = p.stop f e

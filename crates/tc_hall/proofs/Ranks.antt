@@ -44,7 +44,7 @@ module _ (vs : List Knows) (id : ℕ) (v w : Knows) (at : get_elem? vs id ≡ so
 
 -- what a call says of the words holds
 abbrev pub IsTrueCall : List ℕ → PassCall → Type 0
-IsTrueCall ws (Put t place numbers given) = Unit {0}
+IsTrueCall ws (Put t place numbers given turns) = Unit {0}
 IsTrueCall ws (Free i) = Unit {0}
 IsTrueCall ws (Look t found) = found ≡ 2 → slice_index ws (slot_word t) ≡ 2
 IsTrueCall ws Stop = slice_index ws STOP ≡ 1

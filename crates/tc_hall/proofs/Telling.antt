@@ -99,9 +99,9 @@ module _ (k : HallTerms) where
             (λ i. get_or-set_other s.words (slot_word t) (slot_word (threads k + i)) code 0 (λ e. omega arith)) below (o.5 open_slot) open_slot refl may.locks;
         passes = passes_stay k.image.value k.workers r.told.history r.told.history s.words ws' (λ b e. e) done stops s.views id w r.passes
             (pass_kept k.image.value k.workers r.told.history r.told.history s.words ws' (λ b e. e) done stops v w old (refl, refl, refl, refl) (λ i u e. inl e) (λ i b e. inl e)
-            (λ i c e. ⊎_elim (λ z. inl z) (λ (z : (i ≡ length v.calls) × (Put t (place_of code) (numbers q.context.locks) (given_of q) ≡ c)). inr (subst (IsTrueCall ws') z.1 tt)) (at_end v.calls (Put t (place_of code) (numbers q.context.locks) (given_of q)) c i e))
+            (λ i c e. ⊎_elim (λ z. inl z) (λ (z : (i ≡ length v.calls) × (Put t (place_of code) (numbers q.context.locks) (given_of q) q.turns ≡ c)). inr (subst (IsTrueCall ws') z.1 tt)) (at_end v.calls (Put t (place_of code) (numbers q.context.locks) (given_of q) q.turns) c i e))
             (λ u e. inl e));
-        stop = λ e. stop_stays s.views id v w at (λ i h. (i, at_longer v.calls (Put t (place_of code) (numbers q.context.locks) (given_of q) ∷ []) i Stop h)) (r.stop (stops_back s.words (slot_word t) code (λ e. omega arith) e));
+        stop = λ e. stop_stays s.views id v w at (λ i h. (i, at_longer v.calls (Put t (place_of code) (numbers q.context.locks) (given_of q) q.turns ∷ []) i Stop h)) (r.stop (stops_back s.words (slot_word t) code (λ e. omega arith) e));
         apart = apart_stays s.views id v w at record { worker = refl; maker = refl; made = refl; spent = refl; joined = refl } live r.apart;
         listed = listed_stays r.told.history s.views id v w at r.listed record { worker = refl; maker = refl; made = omega arith; spent = refl; joined = refl; sealed = refl };
       }

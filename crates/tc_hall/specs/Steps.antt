@@ -86,7 +86,7 @@ given_of q = option_map (λ (g : Grant). record { lock = g.lock; kind = g.kind; 
 
 -- the call that puts the package at the place
 abbrev pub put_call : PackageView → Place → PassCall
-put_call q place = Put q.context.thread place (numbers q.context.locks) (given_of q)
+put_call q place = Put q.context.thread place (numbers q.context.locks) (given_of q) q.turns
 
 abbrev pub after_put : Knows → PackageView → Place → Knows
 after_put v q place =

@@ -74,8 +74,9 @@ pub struct Given {
 
 /// A call that a pass made. No value of it is made.
 pub enum PassCall {
-    /// The thread, its place, the numbers of the locks in its package, and what was granted.
-    Put(u32, Place, LinkedList<u32>, Option<Given>),
+    /// The thread, its place, the numbers of the locks in its package, what was granted, and how many
+    /// turns of lines the package has taken.
+    Put(u32, Place, LinkedList<u32>, Option<Given>, u64),
     /// The lock.
     Free(u32),
     /// The thread and the word that was seen.
