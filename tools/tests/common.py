@@ -17,7 +17,7 @@ import time
 import traceback
 import unittest
 import warnings
-from typing import IO, Any
+from typing import IO, Any, Callable
 
 from tools.workbench import command, places
 from tools.workbench.guest import guestfile, made
@@ -241,9 +241,12 @@ class Folder(unittest.TestCase):
 
     def wait_for(self, name: str) -> None:
         """Waits until a file or a folder is there."""
+        self.wait_until((self.root / name).exists)
+
+    def wait_until(self, holds: Callable[[], object]) -> None:
         until = time.monotonic() + 50
-        while not (self.root / name).exists():
-            self.assertLess(time.monotonic(), until, name)
+        while not holds():
+            self.assertLess(time.monotonic(), until)
             time.sleep(0.05)
 
     def left_over(self) -> list[Any]:

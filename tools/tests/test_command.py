@@ -250,7 +250,7 @@ class Building(Folder):
         for how in (signal.SIGINT, signal.SIGTERM, signal.SIGHUP):
             started = self.begin(script="tclocks-build", SLEEP="20")
             self.wait_for("out/lanes/low/crates/low/out/rlib")
-            self.assertNotEqual(self.running("bin/rt"), "")
+            self.wait_until(lambda: self.running("bin/rt"))
             started.send_signal(how)
             _, said = started.communicate(timeout=20)
             self.assertEqual(started.returncode, 130)
