@@ -210,6 +210,18 @@ class Contracts(Case):
         self.assertEqual(len(lines), 2)
         self.assertLessEqual({*lines}, {*(PICTURES / "counter.txt").read_text().splitlines()})
 
+    def test_counts_are_those_of_the_sources(self) -> None:
+        words = "No One Two Three Four Five Six Seven Eight Nine Ten Eleven Twelve".split()
+        code = "".join(file.read_text() for file in ROOT.glob("crates/*/src/**/*.rt"))
+        text = "".join(page.read_text() for page in (README, VERIFICATION, DESIGN))
+        offers = re.findall(r"const MAX_OFFERS: u32 = (\d+);", code)[0]
+        piece = re.findall(r"const BLOCKS: usize = (\d)_(\d+);", code)[0]
+        most = max(map(int, re.findall(r"(?m)^blocks (\d+)$", (ROOT / "crates/answers/stdin").read_text())))
+        for said in (f"{words[code.count('unsafe {')]} calls are `unsafe`", f"{words[code.count('unsafe {')]} calls take bytes",
+                     f"the {words[len(limits.SHAPES)].lower()} forms", f"{offers} offers", f"{','.join(piece)} blocks",
+                     f"Facts of {words[len([*ROOT.glob('crates/guest_facts/data/*')])].lower()} guests", f"a log of {most:,} blocks"):
+            self.assertIn(said, text)
+
     def test_mutants_are_few(self) -> None:
         for crate in (ROOT / "crates").iterdir():
             self.assertLessEqual(len([*crate.glob("must-fail/*.edit")]), 8, crate.name)
