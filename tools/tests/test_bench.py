@@ -11,10 +11,11 @@ import sys
 import unittest
 import xml.etree.ElementTree
 from typing import Any
+from unittest import mock
 
 from tools.workbench.benches import guests
 from tools.workbench.guest import guestfile
-from tools.workbench.running import delegation, orders
+from tools.workbench.running import delegation, orders, program
 from .common import GUEST, GUESTS, MADE_UP, NAMES, ROOT, TEMPORARY, Case, elf, process, run, saved, script
 
 
@@ -296,13 +297,32 @@ class Orders(Case):
                     hall.shipped[found[-1]] = [0, 0]
             self.assertEqual("".join(map(str, found)), wanted, bound)
 
+    def test_by_the_programs_where_they_are_built(self) -> None:
+        """Each order is asked of its program, with its words; a made-up one answers by the model."""
+        asked = TEMPORARY / "asked"
+        made = pathlib.Path(script("orders-made", f"""#!/bin/sh
+echo "$@" >> {asked}
+[ "$1" != nodes ] || shift 3
+[ "$1" != run ] || shift
+exec {ROOT}/workbench simulate {elf('counter')} "$@" --seed 1
+"""))
+        with mock.patch.object(program, "YOUNGEST", made), mock.patch.object(program, "PATH", made), \
+                mock.patch.object(program, "missing", lambda: None):
+            rows = table(run("orders --runs 1 --fuel 2000", elf("counter")))
+        self.assertEqual(asked.read_text().splitlines(), ["run 4 2000 8", "nodes 2 8 4 2000 8", "4 2000 8"])
+        self.assertEqual([(row["order"], row["by"], row["seed"]) for row in rows],
+                         [(order, "program", "") for order in ("entry", "nodes", "youngest")])
+        told = run("orders --runs 1 --bound 1", elf("counter")).stderr.decode()
+        self.assertIn("the program youngest has the bound 8", told)
+
     def test_where_nobody_may_be_passed_all_are_alike(self) -> None:
         words = ("--workers", "4", "--batch", "8", "--runs", "2")
-        rows = table(run("orders --bound 0", elf("counter"), *words, "--plot", TEMPORARY / "orders.svg"))
+        plot = TEMPORARY / "orders.svg"
+        rows = table(run("orders --model --bound 0", elf("counter"), *words, "--plot", plot))
         swept = table(run("sweep", elf("counter"), *words, "--model"))
-        self.assertEqual([(row.pop("order"), row["seed"]) for row in rows],
-                         [(order, seed) for order in ("entry", "nodes", "youngest") for seed in "12"])
+        self.assertEqual([(row.pop("order"), row["by"], row["seed"]) for row in rows],
+                         [(name, "model", seed) for name in ("entry", "nodes", "youngest") for seed in "12"])
         for row in rows:
             one, = (each for each in swept if each["seed"] == row["seed"])
             self.assertEqual(row, {name: one[name] for name in row})
-        self.assertIn("longest wait", (TEMPORARY / "orders.svg").read_text())
+        self.assertIn("longest wait", plot.read_text())

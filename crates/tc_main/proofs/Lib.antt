@@ -1,9 +1,10 @@
 pub mod Merging
+pub mod Addable
 pub mod Reporting
 pub mod OneReading
 pub mod SameAsked
+pub mod RunReport
 pub mod Refusing
-pub mod Addable
 pub mod Replaying
 pub mod Statuses
 pub mod NodeRows

@@ -1,5 +1,5 @@
 -- The merged logs of a whole run are its history.
-use Rattle.std.proofs.Common.{◌≡◌, ◌++◌, ℕ, List, map, sym, ◌∙◌, subst}
+use Rattle.std.proofs.Common.{◌≡◌, ◌<◌, ◌^◌, ◌++◌, ℕ, List, length, map, sym, ◌∙◌, subst}
 use Rattle.std.specs.Prelude.{All}
 use Rattle.std.specs.List.Sorted.{IsPermutation}
 use Rattle.tc_isa.specs.declared.options.Options.{Options}
@@ -9,13 +9,17 @@ use Rattle.tc_journal.specs.Line.{history_text}
 use Rattle.tc_journal.specs.declared.block.Block.{Block}
 use Rattle.tc_segment.specs.View.{LockView, IsSoundLock, kept}
 use Rattle.tc_context.specs.View.{PackageView, bare}
-use Rattle.tc_law.specs.Lawful.{Lawful, AreStrict}
+use Rattle.tc_law.specs.Lawful.{Lawful, AreStrict, IsLimited}
+use Rattle.tc_law.proofs.Lawful.{short_history}
+use Rattle.tc_mutex_spec.specs.Blocks.{end_after}
 use Rattle.tc_hall.specs.PassView.{ClosedView}
 use Rattle.tc_workers.specs.Run.{IsWholeRun}
 use Rattle.tc_report.specs.Legal.{IsLegalRun, results_after}
 use Rattle.tc_report.specs.Outcome.{IsOutcome, logs_of}
 use Rattle.tc_report.specs.Report.{head_text, tail_text}
+use Rattle.tc_main.specs.Accepted.{CanAllBeAdded}
 use Rattle.tc_main.specs.Top.{IsReportOf}
+use Rattle.tc_main.proofs.Addable.{addable}
 use Rattle.tc_main.proofs.Merging.{each_stamp, merged}
 use Rattle.tc_report.proofs.Outcomes.{outcome, legal, told}
 
@@ -32,6 +36,13 @@ module _ (image : Shown) (o : Options) (closed : ClosedView) (run : IsWholeRun i
 
     pub outcome_is : IsOutcome image o.fuel g packages states
     outcome_is = subst (λ h. IsOutcome image o.fuel h packages states) same (outcome image o run.history packages states law run.complete)
+
+    -- a profile can be made of it
+    pub few_is : IsLimited image o.fuel → length g < 2 ^ 32
+    few_is limits = subst (λ (h : List Block). length h < 2 ^ 32) same (short_history image o.fuel o.limit run.history (map bare packages) (map kept states) limits law)
+
+    pub addable_is : CanAllBeAdded image g
+    addable_is = subst (CanAllBeAdded image) same (addable image o.fuel run.history (end_after image o.fuel run.history) law.tells law.history)
 
     pub legal_is : All IsSoundLock closed.locks → IsLegalRun image o (results_after image o.fuel g)
     legal_is sound =

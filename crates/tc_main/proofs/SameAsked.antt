@@ -33,7 +33,7 @@ same_numbers a b workers fuel limit = λ i. record {
 }
 
 -- and so are those with the same words
-same_options : (a b : Options) → option_words a ≡ option_words b → a ≡ b
+pub same_options : (a b : Options) → option_words a ≡ option_words b → a ≡ b
 same_options a b e = same_numbers a b
     (small_number a.workers b.workers MAX_WORKERS (omega arith) a.most_workers b.most_workers (ap (word_at 0) e))
     (small_number a.fuel b.fuel MAX_FUEL (omega arith) a.most_fuel b.most_fuel (ap (word_at 1) e))

@@ -9,3 +9,4 @@ pub mod Wrong
 pub mod Accepted
 pub mod Existence
 pub mod RoundTrip
+pub mod Own

@@ -11,8 +11,9 @@ ghost use Rattle.tc_main.specs.declared.status.Status.TheVariants.{Refused, Reje
 ghost use Rattle.tc_main.specs.declared.words.Command.{Command as AnyCommand};
 
 use crate::demo::run_summary;
+use crate::made::ByEntry;
 use crate::replay::{guest_of, replay_profile, replay_report, replayed};
-use crate::run::run_report;
+use crate::run::{Setting, run_report};
 use crate::status::Status;
 use crate::words::{Command, MAX_HISTORY, asked_of};
 use crate::wrong::Wrong;
@@ -23,8 +24,10 @@ use std::thread::Threads;
 use tc_build::generate::generate;
 use tc_elf::limits::MAX_FILE as MAX_BYTES;
 use tc_io::{ReadAll, Sink, Source, Word, read_all};
+use tc_queue::Waiters;
 use tc_replay::reason::Rejected;
 use tc_report::written::{Written, write_text};
+use tc_seats::QueueMaker;
 use tc_workers::gate::Gate;
 
 /// The line that says what the program can be asked for.
@@ -97,14 +100,16 @@ fn answer_wrong<K: Sink>(alloc: Global, wrong: Wrong, sink: &mut K) -> Result<An
 
 /// Writes the text for what is asked, of the bytes that were read for it. All memory that it takes is
 /// taken before any of it is written.
-fn write_asked<R: Threads + Wait + Sync, G: Gate, K: Sink>(
+fn write_asked<R: Threads + Wait + Sync, M: QueueMaker, G: Gate, K: Sink>(
     rt: &R,
     alloc: Global,
     asked: Command,
     bytes: Vec<u8>,
-    gate: &G,
+    setting: &Setting<'_, M, G>,
     sink: &mut K,
 ) -> Result<Written, Wrong>
+where
+    <M::Queue as Waiters>::Place: Send,
     requires limits { IsWithinLimits asked }
     requires few { FitsInput asked bytes.items }
     ensures wrote { IfOk result (λ written. (text : List ℕ) × IsTextOf asked bytes.items text
@@ -115,14 +120,14 @@ fn write_asked<R: Threads + Wait + Sync, G: Gate, K: Sink>(
     match asked {
         Command::Run { order, options } => {
             let image = guest_of(alloc, &bytes)?;
-            Ok(run_report(rt, alloc, &image, order, options, gate, sink)?)
+            Ok(run_report(rt, alloc, &image, order, options, setting, sink)?)
         }
         Command::Generate(rounds) => {
             let file = generate(alloc, rounds)?;
             Ok(write_text(sink, &file))
         }
         Command::Demo { rounds, options } => {
-            let summary = run_summary(rt, alloc, rounds, options, gate)?;
+            let summary = run_summary(rt, alloc, rounds, options, setting)?;
             Ok(write_text(sink, &summary))
         }
         Command::Replay { size, options } => {
@@ -139,21 +144,23 @@ fn write_asked<R: Threads + Wait + Sync, G: Gate, K: Sink>(
 }
 
 /// What the bytes that were read for what is asked come to.
-fn answer_bytes<R: Threads + Wait + Sync, G: Gate, K: Sink>(
+fn answer_bytes<R: Threads + Wait + Sync, M: QueueMaker, G: Gate, K: Sink>(
     rt: &R,
     alloc: Global,
     asked: Command,
     bytes: Vec<u8>,
-    gate: &G,
+    setting: &Setting<'_, M, G>,
     sink: &mut K,
 ) -> Result<Answer, AllocError>
+where
+    <M::Queue as Waiters>::Place: Send,
     requires limits { IsWithinLimits asked }
     requires few { FitsInput asked bytes.items }
     ensures answer { IfOk result (λ a. (text : List ℕ) × Verdict asked bytes.items text a.status
         × Wrote (K.stream sink.old) (K.stream sink.new) text a.written) }
     ensures memory { OnErr result (K.stream sink.new ≡ K.stream sink.old) }
 {
-    match write_asked(rt, alloc, asked, bytes, gate, sink) {
+    match write_asked(rt, alloc, asked, bytes, setting, sink) {
         Ok(written) => Ok(Answer {
             status: Status::Done,
             written,
@@ -178,14 +185,16 @@ fn limit_of(asked: Command) -> Option<usize>
 }
 
 /// What the source comes to for what is asked.
-fn answer_asked<R: Threads + Wait + Sync, S: Source, G: Gate, K: Sink>(
+pub(crate) fn answer_asked<R: Threads + Wait + Sync, S: Source, M: QueueMaker, G: Gate, K: Sink>(
     rt: &R,
     alloc: Global,
     asked: Command,
     source: &mut S,
-    gate: &G,
+    setting: &Setting<'_, M, G>,
     sink: &mut K,
 ) -> Result<Answer, AllocError>
+where
+    <M::Queue as Waiters>::Place: Send,
     requires { IsWithinLimits asked }
     ensures answer { (words : List (List ℕ)) → AskFor words asked
         → IfOk result (λ a. Comes words (S.stream source.old) (S.stream source.new)
@@ -196,10 +205,10 @@ fn answer_asked<R: Threads + Wait + Sync, S: Source, G: Gate, K: Sink>(
     ensures memory { OnErr result (K.stream sink.new ≡ K.stream sink.old) }
 {
     let Some(most) = limit_of(asked) else {
-        return answer_bytes(rt, alloc, asked, Vec::new(alloc), gate, sink);
+        return answer_bytes(rt, alloc, asked, Vec::new(alloc), setting, sink);
     };
     match read_all(alloc, source, most) {
-        Ok(bytes) => answer_bytes(rt, alloc, asked, bytes, gate, sink),
+        Ok(bytes) => answer_bytes(rt, alloc, asked, bytes, setting, sink),
         Err(ReadAll::Fault) => Ok(Answer {
             status: Status::ReadFault,
             written: write_text(sink, &[]),
@@ -234,6 +243,9 @@ pub(crate) fn answer_words<R: Threads + Wait + Sync, S: Source, G: Gate, K: Sink
                 written: write_text(sink, &line),
             })
         }
-        Some(asked) => answer_asked(rt, alloc, asked, source, gate, sink),
+        Some(asked) => {
+            let maker = &ByEntry;
+            answer_asked(rt, alloc, asked, source, &Setting { maker, gate }, sink)
+        }
     }
 }

@@ -10,9 +10,10 @@
 //!
 //! - `words`: what the words of the command line ask for. `order`: in which order the waiters of a
 //!   lock are served. `run`: a run by workers, from the image to the report. `nodes`: a run by workers
-//!   that belong to nodes. `demo`: a run of the generator's guest, to the summary. `replay`: a finished
-//!   history, to its report or its profile. `wrong`: why there is no text. `answer`: what the words and
-//!   the source come to.
+//!   that belong to nodes. `made`: a run with the queues that a maker makes. `own`: runs as programs
+//!   of one's own make them, to a report or to values. `demo`: a run of the generator's guest, to the
+//!   summary. `replay`: a finished history, to its report or its profile. `wrong`: why there is no
+//!   text. `answer`: what the words and the source come to.
 //! - `build`, `generate`: files of guests, of tc_build. `options`: with what a guest is run, of tc_isa.
 //!   `gate`: whom its workers tell how far they are, of tc_workers. `report`, `summary`: the texts of
 //!   a report and of a summary, of tc_report.
@@ -29,13 +30,15 @@ pub mod counts;
 pub mod delegation;
 mod demo;
 pub mod existence;
+pub mod made;
 mod nodes;
 pub mod order;
+pub mod own;
 pub mod program;
 pub mod rejection;
-mod replay;
+pub mod replay;
 pub mod round_trip;
-mod run;
+pub mod run;
 pub mod status;
 #[cfg(test)]
 mod tests;
@@ -43,8 +46,10 @@ pub mod top;
 mod words;
 mod wrong;
 
+pub use crate::own::{run_guest, run_values};
 pub use crate::status::Status;
 pub use crate::top::tclocks;
+pub use crate::words::options_of;
 pub use tc_build::{build, generate};
 pub use tc_isa::options;
 pub use tc_report::{report, summary};

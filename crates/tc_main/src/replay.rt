@@ -119,7 +119,7 @@ pub(crate) fn replay_report(
 }
 
 /// The profile of a history of a guest.
-fn profile_of(alloc: Global, image: &Image, history: &[Block]) -> Result<Profile, AllocError>
+pub fn profile_of(alloc: Global, image: &Image, history: &[Block]) -> Result<Profile, AllocError>
     requires few { length history.now < 2 ^ 32 }
     requires blocks { CanAllBeAdded image.now history.now }
     ensures history { IfOk result (λ p. p.history ≡ history.now) }

@@ -1,16 +1,18 @@
 //! A run of a guest, from its image to the report.
 
-ghost use Rattle.std.specs.Prelude.{◌≡◌, All, IfOk, OnErr, map};
+ghost use Rattle.std.specs.Prelude.{◌≡◌, ◌<◌, ◌^◌, All, IfOk, OnErr, length, map};
 ghost use Rattle.std.specs.List.Sorted.{IsPermutation};
 ghost use Rattle.tc_journal.specs.History.{HasEachStamp, IsInOrder};
 ghost use Rattle.tc_segment.specs.View.{IsSoundLock};
 ghost use Rattle.tc_report.specs.Legal.{IsLegalRun, results_after};
+ghost use Rattle.tc_main.specs.Accepted.{CanAllBeAdded};
 ghost use Rattle.tc_main.specs.Orders.{IsOrderFor};
 ghost use Rattle.tc_report.specs.Outcome.{IsOutcome, log_in, logs_of};
 ghost use Rattle.tc_main.specs.Top.{IsReportOf};
 ghost use Rattle.tc_report.specs.Written.{Wrote};
 ghost use Rattle.tc_workers.specs.Run.{IsWholeRun};
 
+use crate::made::run_made;
 use crate::nodes::run_nodes;
 use crate::order::Order;
 use std::alloc::{AllocError, Global};
@@ -23,11 +25,12 @@ use tc_io::Sink;
 use tc_isa::options::Options;
 use tc_journal::block::Block;
 use tc_journal::history::{in_order, merge_lent};
+use tc_queue::Waiters;
 use tc_report::report::{tail_of, write_report};
 use tc_report::written::Written;
+use tc_seats::QueueMaker;
 use tc_segment::state::LockState;
 use tc_workers::gate::Gate;
-use tc_workers::run_all;
 
 /// What each of the lock states keeps. A law: it goes over them, and does nothing.
 fn keep(locks: &[LockState])
@@ -70,63 +73,83 @@ fn history_in(alloc: Global, packages: &[Package]) -> Result<Vec<&Block>, AllocE
     in_order(alloc, &logs)
 }
 
+/// How the workers of a run wait and what they pass: whose queues stand for the order of entry, and
+/// whom they tell how far they are.
+#[derive(Drop)]
+pub(crate) struct Setting<'a, M, G> {
+    pub maker: &'a M,
+    pub gate: &'a G,
+}
+
 /// Runs the guest until each thread has ended, with the queues of the order.
-fn run_in<R: Threads + Wait + Sync, G: Gate>(
+fn run_in<R: Threads + Wait + Sync, M: QueueMaker, G: Gate>(
     rt: &R,
     alloc: Global,
     image: &Image,
     order: Order,
     options: Options,
-    gate: &G,
+    setting: &Setting<'_, M, G>,
 ) -> Result<Closed, AllocError>
+where
+    <M::Queue as Waiters>::Place: Send,
     requires { IsOrderFor options.workers order }
     ensures { IfOk result (λ closed. IsWholeRun image.now options closed) }
 {
+    let gate = setting.gate;
     match order {
-        Order::Entry => run_all(rt, alloc, image, options, gate),
+        Order::Entry => run_made(rt, alloc, image, options, setting.maker, gate),
         Order::Nodes { nodes, bound } => run_nodes(rt, alloc, image, nodes, bound, options, gate),
     }
 }
 
 /// Runs the guest until each thread has ended, and shows what the lock states keep.
-fn run_closed<R: Threads + Wait + Sync, G: Gate>(
+fn run_closed<R: Threads + Wait + Sync, M: QueueMaker, G: Gate>(
     rt: &R,
     alloc: Global,
     image: &Image,
     order: Order,
     options: Options,
-    gate: &G,
+    setting: &Setting<'_, M, G>,
 ) -> Result<Closed, AllocError>
+where
+    <M::Queue as Waiters>::Place: Send,
     requires { IsOrderFor options.workers order }
     ensures whole { IfOk result (λ closed. IsWholeRun image.now options closed) }
     ensures sound { IfOk result (λ closed. All IsSoundLock closed.locks) }
 {
-    let closed = run_in(rt, alloc, image, order, options, gate)?;
+    let closed = run_in(rt, alloc, image, order, options, setting)?;
     keep(closed.locks());
     Ok(closed)
 }
 
 /// What the workers left of a run to the end of every thread, and the history of it.
 #[derive(Drop)]
-pub(crate) struct WholeRun {
+pub struct WholeRun {
+    /// All threads and locks, as the workers left them.
     pub closed: Closed,
+    /// The blocks of all threads, in the order of their stamps.
     pub history: Vec<Block>,
 }
 
 /// Runs the guest, in the order of entry, until each thread has ended.
-pub(crate) fn run_whole<R: Threads + Wait + Sync, G: Gate>(
+pub(crate) fn run_whole<R: Threads + Wait + Sync, M: QueueMaker, G: Gate>(
     rt: &R,
     alloc: Global,
     image: &Image,
     options: Options,
-    gate: &G,
+    setting: &Setting<'_, M, G>,
 ) -> Result<WholeRun, AllocError>
+where
+    <M::Queue as Waiters>::Place: Send,
     ensures outcome { IfOk result (λ run. IsOutcome image.now options.fuel
         run.history.items run.closed.packages run.closed.locks) }
     ensures legal { IfOk result (λ run. IsLegalRun image.now options
         (results_after image.now options.fuel run.history.items)) }
+    ensures few { IfOk result (λ run. length run.history.items < 2 ^ 32) }
+    ensures addable { IfOk result (λ run. CanAllBeAdded image.now run.history.items) }
 {
-    let closed = run_closed(rt, alloc, image, Order::Entry, options, gate)?;
+    let _threads = image.threads();
+    let closed = run_closed(rt, alloc, image, Order::Entry, options, setting)?;
     let history = history_of(alloc, closed.packages())?;
     Ok(WholeRun { closed, history })
 }
@@ -135,21 +158,23 @@ pub(crate) fn run_whole<R: Threads + Wait + Sync, G: Gate>(
 /// once each of them has ended. What threads and locks came to is told first, so that the lock
 /// states with their journals are gone before the blocks are put in order. The packages stay until
 /// the report is written: the blocks are read in their logs, and are not copied.
-pub(crate) fn run_report<R: Threads + Wait + Sync, G: Gate, K: Sink>(
+pub(crate) fn run_report<R: Threads + Wait + Sync, M: QueueMaker, G: Gate, K: Sink>(
     rt: &R,
     alloc: Global,
     image: &Image,
     order: Order,
     options: Options,
-    gate: &G,
+    setting: &Setting<'_, M, G>,
     sink: &mut K,
 ) -> Result<Written, AllocError>
+where
+    <M::Queue as Waiters>::Place: Send,
     requires { IsOrderFor options.workers order }
     ensures wrote { IfOk result (λ written. (text : _) × IsReportOf image.now options text
         × Wrote (K.stream sink.old) (K.stream sink.new) text written) }
     ensures memory { OnErr result (K.stream sink.new ≡ K.stream sink.old) }
 {
-    let closed = run_closed(rt, alloc, image, order, options, gate)?;
+    let closed = run_closed(rt, alloc, image, order, options, setting)?;
     let (packages, locks) = closed.into_parts();
     let tail = tail_of(alloc, image, &packages, &locks)?;
     drop(locks);

@@ -2,7 +2,8 @@
 
 ghost use Rattle.std.specs.Prelude.{◌≤◌, length};
 
-use crate::run::{WholeRun, run_whole};
+use crate::made::ByEntry;
+use crate::run::{Setting, WholeRun, run_whole};
 use crate::status::{Status, exit_of};
 use std::alloc::Global;
 use std::sync::Wait;
@@ -93,7 +94,11 @@ fn report_of<R: Threads + Wait + Sync>(
         fuel: 100,
         limit,
     };
-    let WholeRun { closed, history } = run_whole(rt, alloc, &image, options, &Open)?;
+    let setting = Setting {
+        maker: &ByEntry,
+        gate: &Open,
+    };
+    let WholeRun { closed, history } = run_whole(rt, alloc, &image, options, &setting)?;
     Ok(report(
         alloc,
         &image,

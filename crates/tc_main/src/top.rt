@@ -23,7 +23,7 @@ use tc_io::{Sink, Source, Word};
 use tc_workers::gate::Gate;
 
 /// How the program ends: a text that was asked for and cut is a fault of the sink.
-fn status_of(answer: Answer) -> Status
+pub(crate) fn status_of(answer: Answer) -> Status
     ensures { (words : List (List ℕ)) (before now had has : Stream)
         → Comes words before now (λ text. Wrote had has text answer.written) answer.status
         → Ends words before now had has result }

@@ -104,7 +104,7 @@ fn is(word: &Word, name: &str) -> bool
 }
 
 /// The options that the words give: the number of workers, the fuel and the batch limit.
-fn options_of(words: &[Word]) -> Option<Options>
+pub fn options_of(words: &[Word]) -> Option<Options>
     ensures some { IfSome result (λ o. words.now ≡ option_words o) }
     ensures none { IfNone result ((o : Chosen) → words.now ≡ option_words o → ⊥) }
 {

@@ -9,8 +9,8 @@
 //! that `Seats` has, with one word, which nobody writes, and no rule; to note a call is to look at
 //! that word. So two queues never share a seat, and a seat's list is that of its own calls.
 //!
-//! - `seats`: seats, and the lists of their calls. `maker`: how the queues of an order are made,
-//!   one for each lock of a run.
+//! - `seats`: seats, and the lists of their calls. `maker`: how the queues of an order are made, as a
+//!   run with an order of one's own wants it (`run_guest` of tc_main).
 #![tactic(auto)]
 
 mod maker;

@@ -2,12 +2,14 @@ ghost use Rattle.std.specs.Prelude.{◌≡◌};
 
 use crate::checks::check_own;
 use crate::queues::enter_all;
+use crate::runs::run_and_read;
 use std::alloc::{AllocError, Global};
 use std::test::*;
 use tc_build::build::build;
 use tc_elf::image::Image;
 use tc_elf::load::load;
 use tc_isa::held::Held;
+use tc_isa::options::Options;
 use tc_journal::block::{Block, End, Kind};
 use tc_queue::{Queue, Turn};
 use tc_replay::{Reason, Rejected, Terms};
@@ -81,5 +83,40 @@ fn own_histories_are_checked(rt: HostRuntime) -> Result<(), Fail> {
     assert!(rt; found == None);
     let found = judged(rt.alloc(), &image, exits(1, 2), exits(0, 3))?;
     assert!(rt; found == Some(wrong));
+    Ok(())
+}
+
+/// A thread adds 1 to the word of lock 0 inside a section, and exits.
+const ONE: [u32; 12] = [
+    0x0002_02b7,
+    0x0000_0513,
+    0x0010_0893,
+    0x0000_0073,
+    0x0002_a383,
+    0x0013_8393,
+    0x0072_a023,
+    0x0000_0513,
+    0x0020_0893,
+    0x0000_0073,
+    0x05d0_0893,
+    0x0000_0073,
+];
+
+/// By one worker each of two threads has three blocks: up to its section, the section, and the rest.
+/// Both sections are taken, and each is by the worker of its thread.
+#[test]
+fn a_run_is_read_as_values(rt: HostRuntime) -> Result<(), Fail> {
+    let entries = [(0x0010_0000, 0), (0x0010_0000, 0)];
+    let file = build(rt.alloc(), &ONE, &entries, &[0; 4], &[(0x0002_0000, 4)])?;
+    let image = load(rt.alloc(), &file)?;
+    let options = Options {
+        workers: 1,
+        fuel: 100,
+        limit: 8,
+    };
+    assert!(rt; image.guards() == 1);
+    let (blocks, lock) = run_and_read(&rt, rt.alloc(), &image, options, 0)?;
+    assert_eq!(rt; blocks, 6);
+    assert_eq!(rt; (lock.sections, lock.taken, lock.adopted), (2, 2, 0));
     Ok(())
 }

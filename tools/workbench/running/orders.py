@@ -1,10 +1,12 @@
-"""Compares orders of a lock's waiters on a guest, by the model: a line for each order and each seed (CSV).
+"""Compares orders of a lock's waiters on a guest: a line for each order and each run (CSV).
 
   entry      as they came: queues of tc_queue
   nodes      the releaser's node first, within the bound: queues of tc_nodes; worker W is on node W modulo the nodes
   youngest   the last that came first, within the bound: the example tc_youngest
 
-The orders have the same seeds. Nothing is said of time. The numbers are sums over the locks:
+The runs are those of the programs (`tclocks run`, `tclocks nodes`, `youngest`) where they are built and the
+bound is 8, that of `youngest`; they have no seed. Else they are those of the model, with the same seeds for
+each order. `by` says which. Nothing is said of time. The numbers are sums over the locks:
 """
 from __future__ import annotations
 
@@ -16,8 +18,8 @@ from typing import Dict, List, Tuple
 from .. import limits, progress, tool
 from ..drawing import svg
 from ..guest import guestfile, model
-from ..reports import counts
-from . import delegation, sweep
+from ..reports import counts, report
+from . import delegation, program, sweep
 
 NUMBERS = ("sections", "adopted", "granted", "changes", "waiting", "longest_wait")
 TITLES = {"changes": "changes of a lock's worker", "waiting": "blocks waited, in sum",
@@ -40,8 +42,21 @@ class YoungestHall(delegation.Hall):
 Row = Tuple[str, int, Dict[str, int]]
 
 
+def ran(file: bytes, asked: argparse.Namespace, order: str) -> Dict[str, int]:
+    """The numbers of a run by the program of this order."""
+    last = (asked.workers, asked.fuel, asked.batch)
+    nodes = (asked.nodes, asked.bound)
+    words = {"entry": ("run", *last), "nodes": ("nodes", *nodes, *last), "youngest": last}[order]
+    status, text = program.run(words, file, path=program.YOUNGEST if order == "youngest" else None)
+    if status:
+        raise tool.Trouble(tool.WRONG, f"the run by {order} ended with status {status}")
+    read = report.Report(text.splitlines(keepends=True))
+    setting = sweep.Setting("program", asked.workers, asked.batch, 0, asked.bound, asked.fuel, 1, None)
+    return sweep.counted(setting, read, read.blocks()).sums()
+
+
 def made(file: bytes, asked: argparse.Namespace, order: str, seed: int) -> Dict[str, int]:
-    """The numbers of a run in this order."""
+    """The numbers of a run in this order by the model."""
     nodes, hall = asked.nodes * (order == "nodes"), YoungestHall if order == "youngest" else delegation.Hall
     run, blocks = delegation.delegated(model.Guest(file), asked.fuel, asked.workers, asked.batch, seed,
                                        nodes=nodes, bound=asked.bound, of=hall)
@@ -49,10 +64,10 @@ def made(file: bytes, asked: argparse.Namespace, order: str, seed: int) -> Dict[
     return sweep.counted(setting, run, blocks).sums()
 
 
-def picture(name: str, asked: argparse.Namespace, rows: List[Row]) -> str:
+def picture(name: str, asked: argparse.Namespace, by: str, rows: List[Row]) -> str:
     """Bars of the means of each order."""
     parts = [svg.label(10, 20, f"{name}: {asked.workers} workers, batch limit {asked.batch}, bound {asked.bound}, "
-                       f"means of {asked.runs} runs by the model", "h")]
+                       f"means of {asked.runs} runs by the {by}", "h")]
     y = 44
     orders = list(dict.fromkeys(order for order, _, _ in rows))
     for number, title in TITLES.items():
@@ -72,9 +87,11 @@ def asked_of(words: List[str]) -> argparse.Namespace:
     parser = tool.words("orders", __doc__ + counts.MEANINGS, "guest")
     for name, (least, most), usual in (("workers", limits.RUN["workers"], 4), ("batch", limits.RUN["batch"], 8),
                                        ("nodes", (1, limits.NUMBERS["nodes"][1]), 2),
-                                       ("bound", limits.NUMBERS["bound"], 4), ("fuel", limits.RUN["fuel"], 20000),
+                                       ("bound", limits.NUMBERS["bound"], program.YOUNGEST_BOUND),
+                                       ("fuel", limits.RUN["fuel"], 20000),
                                        ("runs", (1, 1000), 3), ("seed", (0, 10**9), 1)):
         parser.add_argument(f"--{name}", metavar="N", type=tool.number(least, most), default=usual, help=f"({usual})")
+    parser.add_argument("--model", action="store_true", help="the model, even where the programs are built")
     parser.add_argument("--plot", metavar="FILE", help="write a picture of the means into it (SVG)")
     asked = parser.parse_args(words)
     if asked.nodes > asked.workers:
@@ -86,17 +103,21 @@ def main(words: List[str]) -> None:
     asked = asked_of(words)
     file = guestfile.read(asked.guest)
     guestfile.accepted(file, asked.guest)
+    why = None if asked.model else program.missing_youngest(asked.bound)
+    if why:
+        tool.note("orders", f"by the model: {why}")
+    by = "model" if asked.model or why else "program"
     table = csv.writer(sys.stdout, lineterminator="\n")
-    table.writerow(["order", "seed", *NUMBERS])
+    table.writerow(["order", "by", "seed", *NUMBERS])
     rows: List[Row] = []
     jobs = [(order, asked.seed + run) for order in ("entry", "nodes", "youngest") for run in range(asked.runs)]
     with progress.Progress("orders", "runs", len(jobs)) as shown:
         for order, seed in shown.each(jobs):
-            numbers = made(file, asked, order, seed)
+            numbers = made(file, asked, order, seed) if by == "model" else ran(file, asked, order)
             progress.clear()
-            table.writerow([order, seed, *(numbers[name] for name in NUMBERS)])
+            table.writerow([order, by, seed if by == "model" else "", *(numbers[name] for name in NUMBERS)])
             rows.append((order, seed, numbers))
     sys.stdout.flush()
     if asked.plot and rows:
-        tool.write_file(asked.plot, picture(asked.guest.rpartition("/")[2], asked, rows))
+        tool.write_file(asked.plot, picture(asked.guest.rpartition("/")[2], asked, by, rows))
     shown.end()

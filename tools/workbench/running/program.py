@@ -10,6 +10,8 @@ from .. import places, tool
 
 PATH = places.ROOT / "crates" / "tclocks" / "out" / "tclocks"
 COMMAND = places.ROOT / "tclocks"
+YOUNGEST = places.ROOT / "crates" / "youngest" / "out" / "youngest"
+YOUNGEST_BOUND = 8  # of that program, whose words are W F B
 BUILD = "./tclocks-build proves and builds it"
 NOT_BUILT = 127  # the command's own status
 
@@ -30,9 +32,19 @@ def need() -> None:
         raise tool.Trouble(tool.INPUT, why)
 
 
-def run(words: Iterable[Any], file: bytes, to: int | None = subprocess.PIPE) -> tuple[int, str]:
+def missing_youngest(bound: int) -> str | None:
+    """Why orders can't be compared by programs: youngest isn't built, has another bound, or as above."""
+    if bound != YOUNGEST_BOUND:
+        return f"the program youngest has the bound {YOUNGEST_BOUND}"
+    if not os.access(YOUNGEST, os.X_OK):
+        return "the program youngest isn't built; rt run in crates/youngest proves and builds it"
+    return missing()
+
+
+def run(words: Iterable[Any], file: bytes, to: int | None = subprocess.PIPE,
+        path: pathlib.Path | None = None) -> tuple[int, str]:
     """The program's status and text for words and a file; with `to` None the text goes to standard output."""
-    done = subprocess.run([PATH, *map(str, words)], input=file, stdout=to, check=False)
+    done = subprocess.run([path or PATH, *map(str, words)], input=file, stdout=to, check=False)
     return done.returncode, (done.stdout or b"").decode("ascii", "replace")
 
 

@@ -1,0 +1,126 @@
+//! Runs as programs of one's own make them: with an order of waiters of their own, and to values in
+//! place of a text.
+
+ghost use Rattle.std.specs.Prelude.{◌≡◌, ℕ, ◌<◌, ◌⊎◌, ◌^◌, IfOk, List, length};
+ghost use Rattle.tc_io.specs.Causes.{Rose};
+ghost use Rattle.tc_io.specs.Taken.{FailsAmid, Gives};
+ghost use Rattle.tc_main.specs.Accepted.{CanAllBeAdded};
+ghost use Rattle.tc_main.specs.Ends.{Ends};
+ghost use Rattle.tc_main.specs.Own.{run_words};
+ghost use Rattle.tc_main.specs.Refusals.{NamedRefusal};
+ghost use Rattle.tc_main.specs.Top.{CanBeDone, FailsToRead, IsRefusedFor, IsReport, IsWanted};
+ghost use Rattle.tc_main.specs.Top.{MustRefuse, ReadsAll, ReadsNoFurther, Writes, WritesNothing, refused_line};
+ghost use Rattle.tc_main.specs.Words.{GuestFile};
+ghost use Rattle.tc_main.specs.declared.status.Status.{Status as Answered};
+ghost use Rattle.tc_report.specs.Legal.{IsLegalRun, results_after};
+ghost use Rattle.tc_report.specs.Outcome.{IsOutcome};
+
+use crate::answer::answer_asked;
+use crate::order::Order;
+use crate::run::{Setting, WholeRun, run_whole};
+use crate::status::Status;
+use crate::top::status_of;
+use crate::words::Command;
+use std::alloc::{AllocError, Global};
+use std::sync::Wait;
+use std::thread::Threads;
+use tc_elf::image::Image;
+use tc_io::{Sink, Source};
+use tc_isa::options::Options;
+use tc_queue::Waiters;
+use tc_seats::QueueMaker;
+use tc_workers::gate::Gate;
+
+/// Runs the guest with the maker's queues, until each thread has ended.
+pub fn run_values<R: Threads + Wait + Sync, M: QueueMaker, G: Gate>(
+    rt: &R,
+    alloc: Global,
+    image: &Image,
+    options: Options,
+    maker: &M,
+    gate: &G,
+) -> Result<WholeRun, AllocError>
+where
+    <M::Queue as Waiters>::Place: Send,
+    ensures legal { IfOk result (λ run. IsLegalRun image.now options
+        (results_after image.now options.fuel run.history.items)) }
+    ensures outcome { IfOk result (λ run. IsOutcome image.now options.fuel
+        run.history.items run.closed.packages run.closed.locks) }
+    ensures few { IfOk result (λ run. length run.history.items < 2 ^ 32) }
+    ensures addable { IfOk result (λ run. CanAllBeAdded image.now run.history.items) }
+{
+    run_whole(rt, alloc, image, options, &Setting { maker, gate })
+}
+
+/// Does what `run` does with these options, but with the maker's queues.
+fn end_of<R: Threads + Wait + Sync, S: Source, K: Sink, M: QueueMaker, G: Gate>(
+    rt: &R,
+    alloc: Global,
+    options: Options,
+    maker: &M,
+    source: &mut S,
+    sink: &mut K,
+    gate: &G,
+) -> Status
+where
+    <M::Queue as Waiters>::Place: Send,
+    ensures { Ends (run_words options) (S.stream source.old) (S.stream source.new)
+        (K.stream sink.old) (K.stream sink.new) result }
+{
+    let order = Order::Entry;
+    let asked = Command::Run { order, options };
+    match answer_asked(rt, alloc, asked, source, &Setting { maker, gate }, sink) {
+        Ok(answer) => status_of(answer),
+        Err(_) => Status::OutOfMemory,
+    }
+}
+
+/// Does what `tclocks run W F B` does with these options, but with the maker's queues: reads a
+/// guest's file from the source to its end, runs the guest, and writes the report. It ends as
+/// `tclocks` does with those words.
+pub fn run_guest<R: Threads + Wait + Sync, S: Source, K: Sink, M: QueueMaker, G: Gate>(
+    rt: &R,
+    alloc: Global,
+    options: Options,
+    maker: &M,
+    source: &mut S,
+    sink: &mut K,
+    gate: &G,
+) -> Status
+where
+    <M::Queue as Waiters>::Place: Send,
+    // It comes to the end to which the top call comes with the words of a run with these options.
+    ensures ends { Ends (run_words options) (S.stream source.old) (S.stream source.new)
+        (K.stream sink.old) (K.stream sink.new) result }
+    // The report of a legal run of the guest that the source had was written whole.
+    ensures done { result ≡ Status.Done → (bytes text : List ℕ)
+        × ReadsAll GuestFile (S.stream source.old) (S.stream source.new) bytes
+        × IsReport options bytes text
+        × Gives (K.stream sink.old) (K.stream sink.new) text }
+    // A read failed in this call, and nothing was written.
+    ensures read { result ≡ Status.ReadFault
+        → FailsToRead (run_words options) (S.stream source.old) (S.stream source.new)
+        × WritesNothing (K.stream sink.old) (K.stream sink.new) }
+    // What was read was refused, and the line that says why was written, or a front of it.
+    ensures refused { (k : ℕ) → result ≡ Status.Refused k → (r : NamedRefusal) × (k ≡ r.number)
+        × IsRefusedFor (run_words options) (S.stream source.old) (S.stream source.new) r
+        × Writes (K.stream sink.old) (K.stream sink.new) (refused_line r) }
+    // A write failed in this call, and a front of the report was written before it.
+    ensures write { result ≡ Status.WriteFault → (text : List ℕ)
+        × IsWanted (run_words options) (S.stream source.old) (S.stream source.new) text
+        × FailsAmid (K.stream sink.old) (K.stream sink.new) text }
+    // Memory was wanting, and nothing was written.
+    ensures memory { result ≡ Status.OutOfMemory
+        → ReadsNoFurther (run_words options) (S.stream source.old) (S.stream source.new)
+        × WritesNothing (K.stream sink.old) (K.stream sink.new) }
+    // What is to be refused is refused, unless memory is wanted.
+    ensures refuses { (s : Answered)
+        → MustRefuse (run_words options) (S.stream source.old) (S.stream source.new) s
+        → (result ≡ s) ⊎ (result ≡ Status.OutOfMemory) }
+    // What can be done is done, unless memory is wanted.
+    ensures complete { CanBeDone (run_words options) (S.stream source.old) (S.stream source.new)
+        → ¬ Rose (K.stream sink.old) (K.stream sink.new)
+        → (result ≡ Status.Done) ⊎ (result ≡ Status.OutOfMemory) }
+{
+    end_of(rt, alloc, options, maker, source, sink, gate)
+}
