@@ -102,7 +102,7 @@ class Course(Case):
     def test_means_of_the_orders(self) -> None:
         """The table of exercise 18, by the command that the page gives."""
         for bound, orders in (16, ["youngest"]), (256, ["entry", "nodes", "youngest"]):
-            words = ("--runs", "10", "--bound", str(bound))
+            words = ("--model", "--runs", "10", "--bound", str(bound))
             rows = [*csv.DictReader(self.well("orders", elf("counter"), *words).splitlines())]
             for order in orders:
                 means = (sum(int(row[name]) for row in rows if row["order"] == order) / 10
