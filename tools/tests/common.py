@@ -243,8 +243,8 @@ class Folder(unittest.TestCase):
         """Waits until a file or a folder is there."""
         self.wait_until((self.root / name).exists)
 
-    def wait_until(self, holds: Callable[[], object]) -> None:
-        until = time.monotonic() + 50
+    def wait_until(self, holds: Callable[[], object], seconds: float = 50) -> None:
+        until = time.monotonic() + seconds
         while not holds():
             self.assertLess(time.monotonic(), until)
             time.sleep(0.05)

@@ -213,7 +213,7 @@ class Building(Folder):
 
     def assert_clean(self) -> None:
         self.assertFalse((self.root / "out/lanes").exists())
-        self.assertEqual(self.running("bin/rt"), "")
+        self.wait_until(lambda: not self.running("bin/rt"), 3)  # a process that was ended may be there for a moment
 
     def test_all_libraries_and_then_the_program_are_built_and_it_says_how_far_it_is(self) -> None:
         status, out, said = self.build("--jobs", "4")
