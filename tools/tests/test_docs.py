@@ -21,7 +21,7 @@ from .common import (ANSWERS, COMPILER, COURSE, DOCS, GUESTS, MADE_UP, NAMES, RO
 PICTURES = DOCS / "pictures"
 CRATE_PAGES = sorted(ROOT.glob("crates/*/README.md"))
 GUIDE = DOCS / "GUIDE.md"
-DESIGN = DOCS / "DESIGN.md"
+ARCHITECTURE, DECISIONS, GLOSSARY = (DOCS / f"{name}.md" for name in ("ARCHITECTURE", "DECISIONS", "GLOSSARY"))
 README, VERIFICATION = ROOT / "README.md", DOCS / "VERIFICATION.md"
 PAGES = [*ROOT.glob("*.md"), *DOCS.rglob("*.md"), GUESTS / "README.md", *(ROOT / "bench").rglob("*.md"), *CRATE_PAGES]
 BEGINS = re.compile(r"\(?(cat|for|make|done|echo|printf) ?|\./(workbench|tclocks)[ -]|  |$")
@@ -31,7 +31,7 @@ LEFT_OUT = re.compile(r"\./tclocks-build|\./workbench (check|fuzz|refuse|endure|
 KEPT = {"counter": "counter", "philosophers": "philosophers", "first": "first", "first-alone": "first",
         "by-waiter": "first", "by-holder": "first", "by-server": "first"}
 COURSE_PAGE, KEY = DOCS / "COURSE.md", ANSWERS / "README.md"
-WORDS = {GUIDE: 5500, COURSE_PAGE: 7500, KEY: 3300, DESIGN: 7500, README: 1600, VERIFICATION: 3500,
+WORDS = {GUIDE: 5500, COURSE_PAGE: 7500, KEY: 3300, ARCHITECTURE: 4950, DECISIONS: 1850, GLOSSARY: 1000, README: 1600, VERIFICATION: 3500,
          GUESTS / "README.md": 150}  # of a page, at most
 
 
@@ -161,7 +161,7 @@ class Contracts(Case):
     """What the pages name and quote of the contracts stands there, and the top call is told whole."""
 
     def test_they_stand_where_the_pages_say(self) -> None:
-        for page, least in (README, 8), (VERIFICATION, 45), (DESIGN, 20), (COURSE_PAGE, 2), (KEY, 1), (GUIDE, 1):
+        for page, least in (README, 8), (VERIFICATION, 45), (ARCHITECTURE, 20), (COURSE_PAGE, 2), (KEY, 1), (GUIDE, 1):
             named = re.findall(r"`(\w+)`, \[(crates/[^\]]+):(\d+)\]\((?:\.\./)*(crates/[^)]+)\)", page.read_text())
             self.assertGreaterEqual(len(named), least, page)
             for name, path, line, target in named:
@@ -213,7 +213,7 @@ class Contracts(Case):
     def test_counts_are_those_of_the_sources(self) -> None:
         words = "No One Two Three Four Five Six Seven Eight Nine Ten Eleven Twelve".split()
         code = "".join(file.read_text() for file in ROOT.glob("crates/*/src/**/*.rt"))
-        text = "".join(page.read_text() for page in (README, VERIFICATION, DESIGN))
+        text = "".join(page.read_text() for page in (README, VERIFICATION, ARCHITECTURE, DECISIONS))
         offers = re.findall(r"const MAX_OFFERS: u32 = (\d+);", code)[0]
         piece = re.findall(r"const BLOCKS: usize = (\d)_(\d+);", code)[0]
         most = max(map(int, re.findall(r"(?m)^blocks (\d+)$", (ROOT / "crates/answers/stdin").read_text())))
@@ -288,7 +288,7 @@ def part_of(page: Path, title: str) -> str:
     return re.split(rf"(?m)^#{{1,{len(level)}}} ", page.read_text().split(f"\n{title}\n")[1])[0]
 
 
-class Design(Case):
+class Architecture(Case):
     """The page for whoever changes the code has the crates, calls, files and contracts that there are."""
 
     CRATES = {line.split(":")[0].split()[0]: line.split(":")[1].split()
@@ -296,10 +296,10 @@ class Design(Case):
     FILES = [*ROOT.glob("crates/*/src/*.rt"), *ROOT.glob("crates/*/specs/*.antt")]
 
     def test_each_crate_stands_above_what_it_uses(self) -> None:
-        rows = re.findall(r"(?m)^\| \[(\w+)\]\(\.\./crates/(\w+)/", part_of(DESIGN, "## The crates"))
+        rows = re.findall(r"(?m)^\| \[(\w+)\]\(\.\./crates/(\w+)/", part_of(ARCHITECTURE, "## The crates"))
         named = [name for name, folder in rows if name == folder]
         self.assertEqual(sorted(named), sorted(self.CRATES))
-        figure = part_of(DESIGN, "## The way of the data").split("```")[1].splitlines()
+        figure = part_of(ARCHITECTURE, "## The way of the data").split("```")[1].splitlines()
         place = {word: -at for at, line in enumerate(figure) for word in line.split() if word in self.CRATES}
         self.assertGreater(len(place), 25)
         for name, uses in self.CRATES.items():
@@ -310,7 +310,7 @@ class Design(Case):
     def test_calls_of_an_adopted_section(self) -> None:
         there = {name for file in self.FILES for name in re.findall(r"\bfn (\w+)", file.read_text())}
         rows = re.findall(r"(?m)^\| \d+ \| [01] \|([^|]*)\|([^|]*)\|([^|]*)\|$",
-                          part_of(DESIGN, "## One adopted section, call by call"))
+                          part_of(ARCHITECTURE, "## One adopted section, call by call"))
         self.assertEqual(len(rows), 14)
         named = {word for row in rows for word in re.findall(r"`(?:\w+::)?([a-z]\w+)`", row[0])}
         self.assertEqual(named - there, set())
@@ -322,15 +322,15 @@ class Design(Case):
 
     def test_events_and_clauses(self) -> None:
         """Each event has its row, and each clause of the theorems on lists of events has one."""
-        rows = re.findall(r"(?m)^\| `(\w+)` \|[^|]*\|[^|]*\|$", part_of(DESIGN, "### Events"))
+        rows = re.findall(r"(?m)^\| `(\w+)` \|[^|]*\|[^|]*\|$", part_of(ARCHITECTURE, "### Events"))
         self.assertEqual(rows, self.events())
         for law in "tc_core/src/theorem.rt", "tc_core/src/alive.rt", "tc_told/src/realization.rt":
             clauses = re.findall(r"ensures (\w+) ", (ROOT / "crates" / law).read_text())
-            named = re.findall(rf"(?m)^\| `(\w+)`, \[crates/{law}:", DESIGN.read_text())
+            named = re.findall(rf"(?m)^\| `(\w+)`, \[crates/{law}:", ARCHITECTURE.read_text())
             self.assertEqual(sorted(named), sorted(clauses))
 
     def test_places_of_changes(self) -> None:
-        rows = re.findall(r"(?m)^\| [^|]* \| ([^|]*) \|$", part_of(DESIGN, "## Where a change belongs"))
+        rows = re.findall(r"(?m)^\| [^|]* \| ([^|]*) \|$", part_of(ARCHITECTURE, "## Where a change belongs"))
         self.assertGreater(len(rows), 25)
         for row in rows:
             for crate, names in re.findall(r"(tc_\w+) ((?:`\w+`(?:, )?)+)", row):
@@ -342,8 +342,8 @@ class Design(Case):
                 self.assertTrue(any(place.exists() for place in places), name)
 
     def test_words_of_the_code(self) -> None:
-        self.assertLessEqual(part_of(DESIGN, "## Words").count("\n| "), 62)
-        rows = re.findall(r"(?m)^\| ([^|`]+?)(?: \((`[^)]*)\))? \|", part_of(DESIGN, "### Other words"))[1:]
+        self.assertLessEqual(GLOSSARY.read_text().count("\n| "), 62)
+        rows = re.findall(r"(?m)^\| ([^|`]+?)(?: \((`[^)]*)\))? \|", part_of(GLOSSARY, "## Other words"))[1:]
         self.assertEqual([word for word, _ in rows], sorted((word for word, _ in rows), key=str.lower))
         text = "".join(file.read_text() for file in self.FILES)
         for name in re.findall(r"`(\w+)`", "".join(names for _, names in rows)):
