@@ -1,14 +1,14 @@
 //! Lines that say what the answer must be, and whether a run fits it.
 //!
 //! - `answer STATUS`: a new answer with this status and no text.
-//! - `| LINE`: the text's next line, in which the word `*` stands for any word. `> LINE`: the same of
-//!   the last line, which has no end. `...`: any lines, and alone anything that is written.
-//! - `or`: what follows is the text of another answer that fits as well.
+//! - `| LINE`: the text's next line, in which the word `*` stands for any word. `> LINE`: the same
+//!   for the last line, without a newline. `...`: any lines, and alone anything that is written.
+//! - `or`: what follows is the text of another answer that is accepted too.
 //! - `size N`, `longer N`: the text has so many bytes, or more than so many.
 //! - `blocks N`: it has so many lines of blocks, whose stamps count up from 0. `turns N T`: the blocks
-//!   of thread T have so many turns together. `more N PART`: more than so many lines have this part.
-//! - `kinds N`: it has the line of lock 0 of a profile that counts N sections, and as many of each kind
-//!   as the text that was kept.
+//!   of thread T have so many steps together. `more N PART`: more than so many lines contain this part.
+//! - `kinds N`: it has the line of lock 0 of a profile that counts N sections, and as many of each
+//!   kind as the kept text.
 
 use crate::outside::Ran;
 use crate::row::{number, split};
@@ -34,7 +34,7 @@ impl Answer {
         }
     }
 
-    /// Takes a line that says what the answer must be. Whether the line is one of these.
+    /// Reads a line that says what the answer must be. False for any other line.
     pub fn takes(&mut self, alloc: Global, key: &str, rest: &str) -> Result<bool, AllocError> {
         match key {
             "answer" => {

@@ -1,13 +1,13 @@
 //! Lines that ask once, or for each of a few numbers or files.
 //!
-//! - `ask WORDS`: runs the program on these words, in which `_` stands for a blank, and `?` for a byte
-//!   that no text has. `each N WORDS`: the same for each number of workers up to N, which `@` stands for
-//!   here and in the answer.
-//! - `keep`: keeps what the last of these runs wrote. `again WORDS`: what these words write is what was
-//!   kept.
-//! - `set PLACE SIZE DIGITS`: asks the last words again, where the bytes from this place on are those of
-//!   the number of these digits of base 16, the lowest first. `cuts FROM TO`: of the file's first bytes, for
-//!   each number of bytes.
+//! - `ask WORDS`: runs the program on these arguments, in which `_` stands for a blank, and `?` for
+//!   a byte that no text has. `each N WORDS`: the same for each number of workers up to N, which
+//!   `@` stands for here and in the answer.
+//! - `keep`: keeps what the last of these runs wrote. `again WORDS`: these arguments have to write
+//!   what was kept.
+//! - `set PLACE SIZE DIGITS`: asks the last arguments again, with the bytes from this place on
+//!   replaced by those of the number with these hexadecimal digits, little-endian. `cuts FROM TO`:
+//!   asks them for each of these lengths of a prefix of the file.
 
 use crate::answer::numbered;
 use crate::outside::{Ran, run};
@@ -18,7 +18,7 @@ use std::sync::Wait;
 use std::thread::Threads;
 use tc_main::status::Status;
 
-/// How many runs there were, how many of them agree, and what was asked where one differs.
+/// How many runs there were, how many of them agree, and what was asked if one differs.
 #[derive(Drop)]
 pub struct Tally {
     pub runs: u64,
@@ -68,7 +68,7 @@ impl Tally {
     }
 }
 
-/// Runs the program on the words that were asked last, with a file and so many workers, and compares.
+/// Runs the program on the arguments that were asked last, with a file and so many workers, and compares.
 fn ask_with<R: Threads + Wait + Sync>(
     rt: &R,
     alloc: Global,
@@ -98,7 +98,7 @@ fn each<R: Threads + Wait + Sync>(
     Ok(())
 }
 
-/// Asks once. What is written is what was kept.
+/// Asks once. It has to write what was kept.
 fn again<R: Threads + Wait + Sync>(
     rt: &R,
     alloc: Global,
@@ -111,7 +111,7 @@ fn again<R: Threads + Wait + Sync>(
     tally.count(agrees, words)
 }
 
-/// A file with the bytes of a number from this place on.
+/// A file with the bytes of a number from an offset on.
 fn changed(alloc: Global, file: &[u8], field: &str) -> Result<Vec<u8>, AllocError> {
     let (place, rest) = split(field);
     let (size, digits) = split(rest);
@@ -124,7 +124,7 @@ fn changed(alloc: Global, file: &[u8], field: &str) -> Result<Vec<u8>, AllocErro
     Ok(changed)
 }
 
-/// Asks for each number of the file's first bytes.
+/// Asks for each length of a prefix of the file.
 fn cuts<R: Threads + Wait + Sync>(
     rt: &R,
     alloc: Global,
@@ -140,7 +140,7 @@ fn cuts<R: Threads + Wait + Sync>(
     Ok(())
 }
 
-/// Takes a line that asks. Whether the line is one of these.
+/// Reads a line that asks. False for any other line.
 pub fn asks<R: Threads + Wait + Sync>(
     rt: &R,
     alloc: Global,

@@ -2,8 +2,8 @@
 //!
 //! - `smallest`: the smallest guest's file. `plain CODE`: the same with other code.
 //! - `locks N`, `threads T ..`, and then `built CODE`: a built file. The code is that of guest_code.
-//! - `empty`, `bytes DIGITS`: no bytes, and further bytes, by pairs of digits of base 16.
-//! - `after LINE`: the line behind the file. `history`: the blocks of the text that was kept.
+//! - `empty`, `bytes DIGITS`: no bytes, and further bytes, by pairs of hexadecimal digits.
+//! - `after LINE`: appends the line to the file. `history`: appends the blocks of the kept text.
 //! - `length N`: the file has so many bytes, of which those past its end are zeros.
 
 use crate::row::{Row, number};
@@ -30,7 +30,7 @@ fn push_history(alloc: Global, file: &mut Vec<u8>, report: &str) -> Result<(), A
     file.extend_from_slice(history.as_bytes())
 }
 
-/// Changes the bytes of the file. Whether the line is one of these.
+/// Changes the bytes of the file. False for any other line.
 fn changes(alloc: Global, row: &mut Row, key: &str, rest: &str) -> Result<bool, AllocError> {
     match key {
         "empty" => row.file.clear(),
@@ -46,7 +46,7 @@ fn changes(alloc: Global, row: &mut Row, key: &str, rest: &str) -> Result<bool, 
     Ok(true)
 }
 
-/// Takes a line that says what the file is. Whether the line is one of these.
+/// Reads a line that says what the file is. False for any other line.
 pub fn makes(alloc: Global, row: &mut Row, key: &str, rest: &str) -> Result<bool, AllocError> {
     match key {
         "smallest" => row.file = plain(alloc, "EXIT")?,

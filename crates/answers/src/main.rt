@@ -1,13 +1,13 @@
-//! Compares what the program answers with what is known of it from outside: words and the bytes of a
+//! Compares what the program answers with answers known independently: arguments and the bytes of a
 //! file go in, a status and a text come out.
 //!
-//! The table comes on standard input, as `stdin` of this folder holds it. A line says what the file is,
+//! The table comes on standard input, from `stdin` of this folder. A line says what the file is,
 //! what the source and the sink do, or what the answer must be; each holds until another line of its
-//! kind. Other lines ask: each runs the program once or more, through its top call, and compares. What
-//! differs is printed, and at the end how many runs agree. The modules say which lines there are.
+//! kind. Other lines ask: each runs the program once or more, through its top call, and compares.
+//! Differences are printed, and at the end how many runs agree. The modules define the lines.
 //!
 //! - `row`: what the lines say before one asks. `guest`: lines of the file. `outside`: lines of the
-//!   source and the sink, and a run with these. `answer`: lines of the answer, and whether a run fits it.
+//!   source and the sink, and a run with these. `answer`: lines of the answer, and whether a run fits.
 //! - `ask`: lines that ask once. `many`: lines that ask for each of many faults.
 #![tactic(auto)]
 

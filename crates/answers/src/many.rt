@@ -1,9 +1,9 @@
-//! Lines that ask the last words again, for each call of a source or a sink that may fail.
+//! Lines that ask the last arguments again, for each call of a source or a sink that may fail.
 //!
-//! - `sources N`: a source gives up to N bytes in a call. Where it fails in a call to which it comes,
-//!   nothing is written, with the status `read-fault`: the last call finds nothing left.
-//! - `sinks N STATUS`: a sink takes up to N bytes in a call. Where it fails in one, it has as many pieces
-//!   of what the same words write without a fault as calls came before, with this status.
+//! - `sources N`: a source gives up to N bytes in a call. If it fails in one of its calls, nothing
+//!   is written, with the status `read-fault`: the last call finds nothing left.
+//! - `sinks N STATUS`: a sink takes up to N bytes in a call. If it fails in one, it has as many
+//!   pieces of the faultless text as calls came before, with this status.
 
 use crate::answer::status_of;
 use crate::ask::Tally;
@@ -36,8 +36,8 @@ fn source<R: Threads + Wait + Sync>(
     tally.compare(alloc, row, ran, "sources", 1)
 }
 
-/// Asks with a sink that takes up to `most` bytes in a call, and fails in this call. Without a fault the
-/// words are answered as `whole` is.
+/// Asks with a sink that takes up to `most` bytes in a call, and fails in this call. Without a
+/// fault the arguments are answered as `whole` is.
 fn sink<R: Threads + Wait + Sync>(
     rt: &R,
     alloc: Global,
@@ -93,7 +93,7 @@ fn sinks<R: Threads + Wait + Sync>(
     Ok(())
 }
 
-/// Takes a line that asks for each call. Whether the line is one of these.
+/// Reads a line that asks for each call. False for any other line.
 pub fn asks<R: Threads + Wait + Sync>(
     rt: &R,
     alloc: Global,

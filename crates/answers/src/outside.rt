@@ -19,7 +19,7 @@ use tc_main::top::tclocks;
 pub struct Outside {
     /// How many bytes a call gives or takes.
     pub most: usize,
-    /// For how many bytes the sink has room.
+    /// The capacity of the sink in bytes.
     pub room: usize,
     /// The calls that fail.
     pub failing_read: Option<u64>,
@@ -37,7 +37,7 @@ impl Outside {
         }
     }
 
-    /// Takes a line that says what the source and the sink do. Whether the line is one of these.
+    /// Reads a line that says what the source and the sink do. False for any other line.
     pub fn takes(&mut self, key: &str, rest: &str) -> bool {
         let number = number(rest);
         match key {
@@ -52,7 +52,7 @@ impl Outside {
     }
 }
 
-/// What a run ended with, and what it wrote.
+/// The status of a run, and what it wrote.
 #[derive(Drop)]
 pub struct Ran {
     pub status: Status,
@@ -60,13 +60,13 @@ pub struct Ran {
 }
 
 impl Ran {
-    /// What was written as text, and nothing where it is none.
+    /// What was written, if it is text, else nothing.
     pub fn text(&self) -> &str {
         from_utf8(&self.written).unwrap_or("")
     }
 }
 
-/// A word of the command line: `_` stands for a blank in it, and `?` for a byte that no text has.
+/// A command-line argument: `_` stands for a blank in it, and `?` for a byte that no text has.
 fn word_of(alloc: Global, written: &str) -> Result<Word, AllocError> {
     let mut bytes = Vec::new(alloc);
     for byte in written.as_bytes() {
@@ -79,7 +79,7 @@ fn word_of(alloc: Global, written: &str) -> Result<Word, AllocError> {
     Word::from_bytes(alloc, &bytes)
 }
 
-/// The words of the command line, which are told apart by blanks.
+/// The command-line arguments, separated by blanks.
 fn words_of(alloc: Global, written: &str) -> Result<Vec<Word>, AllocError> {
     let mut words = Vec::new(alloc);
     for word in written.split_ascii_whitespace() {
@@ -97,7 +97,7 @@ fn failing(alloc: Global, call: Option<u64>) -> Result<Vec<u64>, AllocError> {
     Ok(calls)
 }
 
-/// The top call. What it promises is not used here: the table says what must come of it.
+/// The top call. Its contract is not used here: the table says what the result must be.
 fn top<R: Threads + Wait + Sync, S: Source, K: Sink>(
     rt: &R,
     alloc: Global,
@@ -108,7 +108,7 @@ fn top<R: Threads + Wait + Sync, S: Source, K: Sink>(
     tclocks(rt, alloc, words, source, sink, &Open)
 }
 
-/// Runs the program on the words and a file, with this source and sink.
+/// Runs the program on the arguments and a file, with this source and sink.
 pub fn run<R: Threads + Wait + Sync>(
     rt: &R,
     alloc: Global,

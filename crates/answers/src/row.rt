@@ -12,7 +12,7 @@ pub struct Row {
     /// The threads of files that are built, and for how many locks each has a guard.
     pub threads: String,
     pub locks: usize,
-    /// The words of the last line that asked.
+    /// The arguments of the last line that asked.
     pub words: String,
     /// What the last run wrote that was kept.
     pub kept: String,
@@ -35,12 +35,12 @@ impl Row {
     }
 }
 
-/// The number that these digits of base 10 write, and 0 where they write none.
+/// The number that these decimal digits write, or 0 if they write none.
 pub fn number(digits: &str) -> usize {
     digits.parse::<usize>().unwrap_or(0)
 }
 
-/// What stands before the first blank of a text, and behind it.
+/// What comes before the first blank of a text, and what follows it.
 pub fn split(text: &str) -> (&str, &str) {
     text.split_once(' ').unwrap_or((text, ""))
 }

@@ -24,8 +24,8 @@ DATA 000202b7
 ADD 0002a383 00138393 0072a023
 ";
 
-/// The words of the piece of code that has this name. Any other name is that of a single word, by its
-/// digits in base 16.
+/// The words of the piece of code that has this name. Any other name is that of a single word, in
+/// hexadecimal digits.
 fn words_of(name: &str) -> &str {
     for line in PIECES.lines() {
         if let Some((own, words)) = line.split_once(' ') {
@@ -37,8 +37,8 @@ fn words_of(name: &str) -> &str {
     name
 }
 
-/// Appends the words of code that have this name. What has none, and is no number, is the word 0, which
-/// is no instruction.
+/// Appends the words of code that have this name. If there are none, and it is no number, that is
+/// the word 0, which is no instruction.
 fn push_named(code: &mut Vec<u32>, name: &str) -> Result<(), AllocError> {
     for word in words_of(name).split_ascii_whitespace() {
         code.push(u32::from_str_radix(word, 16).unwrap_or(0))?;
@@ -57,8 +57,8 @@ fn push_repeated(code: &mut Vec<u32>, written: &str) -> Result<(), AllocError> {
     Ok(())
 }
 
-/// The words of code that a text names: pieces by their names, single words by their digits in base 16,
-/// and `N*NAME` for a name N times.
+/// The words of code that a text names: pieces by their names, single words by their hexadecimal
+/// digits, and `N*NAME` for a name N times.
 pub fn code_of(alloc: Global, text: &str) -> Result<Vec<u32>, AllocError> {
     let mut code = Vec::new(alloc);
     for written in text.split_ascii_whitespace() {

@@ -4,14 +4,14 @@ use crate::code::code_of;
 use std::alloc::{AllocError, Global};
 use tc_build::build::{CODE_START, DATA_START, build};
 
-/// What stands in the smallest guest's file before the size of its code, and behind it, as code.
+/// What precedes the size of the code in the smallest guest's file, and what follows it, as code.
 const FRONT: &str =
     "464c457f 00010101 00000000 00000000 00f30002 00000001 00010054 00000034 00000000 \
     00000000 00200034 00000001 00000000 00000001 00000054 00010054 00010054";
 
 const BACK: &str = "00000005 00000004";
 
-/// The bytes of words, the lowest byte of each first.
+/// The bytes of words, little-endian.
 fn bytes_of(alloc: Global, words: &[u32]) -> Result<Vec<u8>, AllocError> {
     let mut bytes = Vec::new(alloc);
     for word in words {
@@ -20,7 +20,7 @@ fn bytes_of(alloc: Global, words: &[u32]) -> Result<Vec<u8>, AllocError> {
     Ok(bytes)
 }
 
-/// A file of a lone thread without locks, as a linker could write it, with the code of this text at
+/// A file with one thread and no locks, as a linker could write it, with the code of this text at
 /// 0x00010054. With the code `EXIT` it is the smallest guest's.
 pub fn plain(alloc: Global, code: &str) -> Result<Vec<u8>, AllocError> {
     let size = code_of(alloc, code)?.len().min(4096) * 4;
@@ -28,8 +28,8 @@ pub fn plain(alloc: Global, code: &str) -> Result<Vec<u8>, AllocError> {
     bytes_of(alloc, &code_of(alloc, &text)?)
 }
 
-/// The entry of a thread from `WORD` or `WORD:ARGUMENT`: the word of code at which it begins, and its
-/// argument, which is 0 where none is written.
+/// The entry of a thread from `WORD` or `WORD:ARGUMENT`: the word of code at which it begins, and
+/// its argument, 0 if none is written.
 fn entry_of(written: &str) -> (u32, u32) {
     let (word, argument) = written.split_once(':').unwrap_or((written, "0"));
     let word = word.parse::<u32>().unwrap_or(0);
@@ -55,9 +55,9 @@ fn guards_of(alloc: Global, locks: usize) -> Result<Vec<(u32, u32)>, AllocError>
     Ok(guards)
 }
 
-/// A built file of the code of this text, at 0x00100000, with a guard of one word for each lock, from
-/// 0x00020000 on, all zeros. The threads are `WORD` or `WORD:ARGUMENT` each: the word of code at which
-/// one begins, and its argument. It is empty where there is no thread, or too much code.
+/// A built file with the code of this text at 0x00100000, and a guard of one zero word for each
+/// lock from 0x00020000 on. The threads are `WORD` or `WORD:ARGUMENT` each: the word of code at
+/// which one begins, and its argument. It is empty if there is no thread, or too much code.
 pub fn built(
     alloc: Global,
     code: &str,

@@ -1,7 +1,7 @@
-//! Guests of the tests, whose code is written as text, and what tests ask of a report's lines.
+//! Guests for tests, whose code is written as text, and questions about a report's lines.
 //!
-//! It stands beside the program: tests alone use it, and look at what comes of it. So it promises the
-//! layers above nothing but that each call is safe, and ends.
+//! Only tests use it, and they check its results. So it promises the layers above only that each
+//! call is safe, and ends.
 //!
 //! - `code`: words of code from their names. `file`: the files that hold them. `lines`: the lines of
 //!   a text.

@@ -32,7 +32,7 @@ pub fn blocks(text: &str) -> Option<usize> {
     Some(count)
 }
 
-/// How many turns the blocks of a thread have together, whose number is written here.
+/// How many steps the blocks of a thread have together; its number is written here.
 pub fn turns_of(alloc: Global, text: &str, thread: &str) -> Result<u64, AllocError> {
     let name = format!(in alloc; " thread {thread} turns ")?;
     let mut turns: u64 = 0;

@@ -3,7 +3,7 @@
 use crate::fact::Fact;
 use std::alloc::{AllocError, Global};
 
-/// What the report says of a fact's name, None where it says nothing.
+/// What the report says of a fact's name; None if it says nothing.
 pub fn value_in(
     alloc: Global,
     report: &str,
@@ -17,7 +17,7 @@ pub fn value_in(
     }
 }
 
-/// What follows the front of the first line that begins with this place and number.
+/// The rest of the first line that begins with this place and number.
 fn line_of<'a>(report: &'a str, place: &str, number: &str) -> Option<&'a str> {
     for line in report.lines() {
         if let Some(rest) = after(line, place, number) {
@@ -27,7 +27,7 @@ fn line_of<'a>(report: &'a str, place: &str, number: &str) -> Option<&'a str> {
     None
 }
 
-/// What follows the place and the number at the front of a line.
+/// What follows the place and the number at the start of a line.
 fn after<'a>(line: &'a str, place: &str, number: &str) -> Option<&'a str> {
     let (first, rest) = line.split_once(' ')?;
     let (second, rest) = rest.split_once(' ')?;

@@ -1,14 +1,14 @@
-//! Compares the runs of eight guests with what is known of them from outside.
+//! Compares the runs of eight guests with facts that were computed independently.
 //!
 //! The guests are the files of `data`, seven built from C and one from assembler by tools for
-//! RISC-V. The table comes on standard input, as `stdin` of this folder holds it: a line of
-//! headings, and a line `guest,place,number,fact,value` for each fact of a thread or of a lock. The
-//! facts were computed without running the guests. They hold whatever the order in which the
-//! threads come: a fact that the order decides is not in the table.
+//! RISC-V. The table comes on standard input, from `stdin` of this folder: a line of headings, and
+//! a line `guest,place,number,fact,value` for each fact of a thread or of a lock. The facts were
+//! computed without running the guests. They hold for every interleaving: a fact that depends on
+//! the order of the threads is not in the table.
 //!
-//! Each guest is run once, through the top call with its files in memory, and `found` looks up
-//! facts in its report. One line is printed for each fact that differs, and at the end how many
-//! agree.
+//! Each guest is run once, through the top call with its files in memory. `fact` is a line of the
+//! table, and `found` looks facts up in the report. One line is printed for each fact that differs,
+//! and at the end how many agree.
 #![tactic(auto)]
 
 mod fact;

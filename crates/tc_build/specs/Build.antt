@@ -4,11 +4,11 @@ use Rattle.std.specs.Prelude.{◌≡◌, ℕ, ◌+◌, ◌*◌, List, [], ◌∷
 use Rattle.std.specs.List.{flat_map}
 use Rattle.byteorder.specs.Endian.{little_bytes}
 
--- the four bytes of a word, the lowest first
+-- the four bytes of a word, little-endian
 abbrev pub word_bytes : ℕ → List ℕ
 word_bytes n = little_bytes 4 n
 
--- the words were written at the end of a file
+-- the words were appended to a file
 abbrev pub Writes : List ℕ → List ℕ → List ℕ → Type 0
 Writes old new words = new ≡ old ++ flat_map word_bytes words
 
@@ -17,7 +17,7 @@ abbrev pub header_words : ℕ → List ℕ
 header_words entry =
     0x464c457f ∷ 0x00010101 ∷ 0 ∷ 0 ∷ 0x00f30002 ∷ 1 ∷ entry ∷ 52 ∷ 0 ∷ 0 ∷ 0x00200034 ∷ 3 ∷ 0 ∷ []
 
--- a program header: its type, where its bytes stand in the file, its address, its size and its flags
+-- a program header: its type, the offset of its bytes in the file, its address, its size and its flags
 abbrev pub segment_words : ℕ → ℕ → ℕ → ℕ → ℕ → List ℕ
 segment_words kind offset address size flags = kind ∷ offset ∷ address ∷ address ∷ size ∷ size ∷ flags ∷ 4 ∷ []
 
@@ -29,7 +29,7 @@ pub record AreWords (pair : ℕ × ℕ) : Type 0 where
 abbrev pub pair_words : ℕ × ℕ → List ℕ
 pair_words pair = pair.0 ∷ pair.1 ∷ []
 
--- version 1 where it has room for so many threads and guards, else version 2
+-- version 1 if it has room for so many threads and guards, else version 2
 abbrev pub note_version : ℕ → ℕ → ℕ
 note_version threads guards = if nat_le threads 16 && nat_le guards 16 then 1 else 2
 
@@ -47,7 +47,7 @@ note_words entries guards = note_head (length entries) (length guards) ++ flat_m
 abbrev pub note_length : ℕ → ℕ → ℕ
 note_length threads guards = 32 + 8 * threads + 8 * guards
 
--- the three program headers, of the note, the code and the data, which have these sizes and stand one behind another
+-- the three program headers, of the note, the code and the data, with these sizes, which follow one another
 abbrev pub segments_words : ℕ → ℕ → ℕ → List ℕ
 segments_words note code fill =
     segment_words 4 148 0 note 4

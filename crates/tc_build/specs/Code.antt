@@ -1,5 +1,5 @@
--- Code that is put together from instructions, as an assembler reads them: registers by number, immediates in two's
--- complement.
+-- Code assembled from instructions, as an assembler reads them: registers by number, immediates in
+-- two's complement.
 use Rattle.std.specs.Prelude.{◌≡◌, ℕ, ◌-◌, ◌^◌, List, [], ◌∷◌, ◌++◌, map}
 use Rattle.tc_isa.specs.Rows.{encoded}
 use Rattle.tc_isa.specs.declared.instr.ImmOp.TheVariants.{Addi}
@@ -12,7 +12,7 @@ use Rattle.tc_isa.specs.declared.instr.Instr.TheVariants.{Imm, Load, Store, Ecal
 unfoldable pub words_of : List Instr → List ℕ
 words_of code = map encoded code
 
--- the words of these instructions were put behind those that stood there
+-- the words of these instructions were appended
 abbrev pub Adds : List ℕ → List ℕ → List Instr → Type 0
 Adds old new code = new ≡ old ++ words_of code
 
@@ -33,7 +33,7 @@ unlock n = guest_call 2 n
 abbrev pub sleep : ℕ → List Instr
 sleep blocks = guest_call 3 blocks
 
--- the call that ends the thread; what stands in x10 is its exit code
+-- the call that ends the thread; x10 is its exit code
 abbrev pub exit : List Instr
 exit = addi 17 0 93 ∷ Ecall ∷ []
 
@@ -41,6 +41,6 @@ exit = addi 17 0 93 ∷ Ecall ∷ []
 abbrev pub addition : ℕ → ℕ → List Instr
 addition offset amount = Load Lw 7 5 offset ∷ addi 7 7 amount ∷ Store Sw 5 7 offset ∷ []
 
--- a number of 32 bits, below 0, in two's complement
+-- a negative number of 32 bits, in two's complement
 abbrev pub negated : ℕ → ℕ
 negated n = 2 ^ 32 - n

@@ -19,7 +19,7 @@ code_range code = record {
 abbrev pub data_range : List ℕ → Range
 data_range fill = record { start = 0x00020000; length = length fill; writable = true; executable = false; bytes = fill }
 
--- the code and the data; what is empty makes no range
+-- the code and the data; an empty one makes no range
 abbrev pub described_ranges : List ℕ → List ℕ → List Range
 described_ranges code fill = filter (λ r. nat_lt 0 r.length) (code_range code ∷ data_range fill ∷ [])
 
@@ -40,7 +40,7 @@ described code entries fill guards = record {
 abbrev pub place_refusal : Shown → Option Refusal
 place_refusal image = layout_refusal image.ranges (Some (record { entries = image.entries; guards = image.guards }))
 
--- nothing but its entries and its guards may refuse the file, and where they do not, it stands for the image
+-- only its entries and its guards may be a reason to refuse the file; if they are not, it describes the image
 pub record StandsFor (file : List ℕ) (image : Shown) : Type 0 where
   pub refused : refusal file ≡ place_refusal image
   pub loaded : place_refusal image ≡ None → subset file image

@@ -1,5 +1,5 @@
--- The generator's guest: four threads over four locks, which does as much as is asked for. Its code has no branch, and
--- what it changes under a lock are sums alone.
+-- The generator's guest: four threads over four locks, as long as is asked for. Its code has no
+-- branch, and all that it changes under a lock are sums.
 use Rattle.std.specs.Prelude.{ℕ, ◌+◌, ◌*◌, ◌%◌, ◌==◌, if◌then◌else◌, List, [], ◌∷◌, ◌++◌, length, map}
 use Rattle.std.specs.List.{flat_map, range_with_len}
 use Rattle.tc_isa.specs.declared.instr.Instr.{Instr}
@@ -11,18 +11,18 @@ use Rattle.tc_build.specs.Code.{words_of, lock, unlock, sleep, exit, addition, n
 
 -- ---- rounds
 
--- counts a section of lock a, in the first word of its guard
+-- increments the count of sections of lock a, in the first word of its guard
 abbrev pub count : ℕ → List Instr
 count a = lock a ++ addition (16 * a) 1 ++ unlock a
 
--- carries an amount from the second word of one guard to that of the next, with both locks held
+-- moves an amount from the second word of one guard to that of the next, with both locks held
 abbrev pub transfer : ℕ → ℕ → ℕ → List Instr
 transfer a b amount =
     lock a ++ lock b
     ++ addition (16 * a + 4) (negated amount) ++ addition (16 * b + 4) amount
     ++ unlock a ++ unlock b
 
--- counts a section of lock a, and sleeps in it
+-- increments the count of sections of lock a, and sleeps in the section
 abbrev pub nap : ℕ → ℕ → List Instr
 nap a blocks = lock a ++ addition (16 * a) 1 ++ sleep blocks ++ unlock a
 
@@ -50,7 +50,7 @@ thread_code rounds t = Lui 5 0x20000 ∷ flat_map (round_code t) (numbers_below 
 unfoldable pub code_of : ℕ → ℕ → List ℕ
 code_of rounds threads = words_of (flat_map (thread_code rounds) (numbers_below threads))
 
--- thread t begins behind the code of those before it, with the argument 0
+-- thread t begins after the code of those before it, with the argument 0
 abbrev pub entry : ℕ → ℕ → ℕ × ℕ
 entry rounds t = (0x00100000 + 4 * length (code_of rounds t), 0)
 
@@ -61,7 +61,7 @@ entries rounds = map (entry rounds) (0 ∷ 1 ∷ 2 ∷ 3 ∷ [])
 abbrev pub guards : List (ℕ × ℕ)
 guards = (0x00020000, 16) ∷ (0x00020010, 16) ∷ (0x00020020, 16) ∷ (0x00020030, 16) ∷ []
 
--- the words of each guard at the start: no section, and an amount of 1,000
+-- the initial words of each guard: no section, and an amount of 1,000
 abbrev pub guard_words : List ℕ
 guard_words = 0 ∷ 1000 ∷ 0 ∷ 0 ∷ []
 

@@ -1,4 +1,4 @@
--- What the loader answers of files that stand for an image.
+-- What the loader returns for files that describe an image.
 use Rattle.std.specs.Prelude.{◌≡◌, ℕ, List, None, Result, Ok, Err}
 use Rattle.tc_elf.specs.declared.refusal.Refusal.{Refusal}
 use Rattle.tc_elf.specs.declared.refusal.Refusal.TheVariants.{OutOfMemory}
@@ -7,12 +7,12 @@ use Rattle.tc_elf.specs.Loading.{Loads}
 use Rattle.tc_build.specs.Described.{place_refusal, StandsFor}
 use Rattle.tc_build.specs.Generator.{generated}
 
--- the image is answered, want of memory apart
+-- the image is returned, unless memory runs out
 abbrev pub Gives : Shown → Result Shown Refusal → Type 0
 Gives image (Ok found) = found ≡ image
 Gives image (Err reason) = reason ≡ OutOfMemory
 
--- where nothing is wrong with the entries and the guards of the image, `load` gives it
+-- if the entries and the guards of the image are in order, `load` returns it
 abbrev pub DescribedLoads : Type 0
 DescribedLoads =
     (file : List ℕ) (image : Shown) (answer : Result Shown Refusal)

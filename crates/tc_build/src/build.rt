@@ -10,10 +10,10 @@ use byteorder::{ByteOrder, LittleEndian};
 use std::alloc::{AllocError, Global};
 use tc_elf::limits::FIRST_VERSION_MOST;
 
-/// Where the code of a built guest stands in memory.
+/// The address of the code of a built guest.
 pub const CODE_START: u32 = 0x0010_0000;
 
-/// Where the data of a built guest stand in memory.
+/// The address of the data of a built guest.
 pub const DATA_START: u32 = 0x0002_0000;
 
 /// The greatest number of words of code of a built guest.
@@ -155,9 +155,9 @@ fn push_segments(file: &mut Vec<u8>, note: u32, code: u32, fill: u32) -> Result<
     Ok(())
 }
 
-/// The file of a guest whose code stands at `CODE_START` and whose data, which are `fill`, stand
-/// at `DATA_START`. Its threads have these entries with their arguments, and its locks these guards
-/// by start and length.
+/// The file of a guest with its code at `CODE_START` and its data, `fill`, at `DATA_START`.
+/// Each thread has its entry and its argument. Each lock has its guard, by start and
+/// length.
 pub fn build(
     alloc: Global,
     code: &[u32],

@@ -1,4 +1,4 @@
-//! Code of guests that is put together from instructions.
+//! Code of guests, assembled from instructions.
 
 ghost use Rattle.std.specs.Prelude.{◌≡◌, ◌<◌, [], All, OnOk};
 ghost use Rattle.tc_isa.specs.Rows.{IsValid, IsSigned};
@@ -25,7 +25,7 @@ fn addi(rd: u32, rs1: u32, imm: u32) -> Instr
     }
 }
 
-/// The words of a guest's code. A contract sees their list.
+/// The words of a guest's code. Contracts see their list.
 #[derive(Drop)]
 pub(crate) struct Code {
     words: Vec<u32>,
@@ -108,8 +108,8 @@ impl Code {
         self.push(&[addi(17, 0, 93), Instr::Ecall])
     }
 
-    /// Adds what adds an amount to the word at an offset from x5. An amount below 0 is in two's
-    /// complement.
+    /// Adds instructions that add an amount to the word at an offset from x5. A negative amount is
+    /// in two's complement.
     pub(crate) fn add(&mut self, offset: u32, amount: u32) -> Result<(), AllocError>
         requires offset { offset < 2048 }
         requires amount { IsSigned 12 amount }

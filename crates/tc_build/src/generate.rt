@@ -1,4 +1,4 @@
-//! The generator: a guest of four threads over four locks, which does as much as is asked for.
+//! The generator: a guest of four threads over four locks, as long as is asked for.
 
 ghost use Rattle.std.specs.Prelude.{◌≡◌, ◌+◌, ◌≤◌, ◌<◌, IfOk, OnOk, length};
 ghost use Rattle.tc_elf.specs.Loading.{subset};
@@ -35,7 +35,7 @@ const GUARDS: [(u32, u32); 4] = [
     (DATA_START + 48, 16),
 ];
 
-/// Adds a section of a lock that counts itself.
+/// Adds a section of a lock that increments the lock's counter.
 fn push_count(code: &mut Code, lock: u32) -> Result<(), AllocError>
     requires { lock < 4 }
     ensures { OnOk result (Adds code.old code.new (spec.count lock)) }
@@ -46,7 +46,7 @@ fn push_count(code: &mut Code, lock: u32) -> Result<(), AllocError>
     Ok(())
 }
 
-/// Adds a section of a lock and the next one that carries an amount from the one to the other.
+/// Adds a transfer: sections of a lock and of the next one that move an amount between the two.
 fn push_transfer(code: &mut Code, lock: u32, amount: u32) -> Result<(), AllocError>
     requires lock { lock < 3 }
     requires some { 1 ≤ amount }
@@ -63,7 +63,7 @@ fn push_transfer(code: &mut Code, lock: u32, amount: u32) -> Result<(), AllocErr
     Ok(())
 }
 
-/// Adds a section of a lock that counts itself and sleeps.
+/// Adds a section of a lock that increments the lock's counter and sleeps.
 fn push_nap(code: &mut Code, lock: u32, blocks: u32) -> Result<(), AllocError>
     requires lock { lock < 4 }
     requires blocks { blocks < 2048 }
@@ -109,10 +109,10 @@ fn push_thread(code: &mut Code, rounds: u32, thread: u32) -> Result<(), AllocErr
     Ok(())
 }
 
-/// The file of the generator's guest, whose threads have so many rounds. In a round a thread runs a
-/// section that counts itself, a transfer between two locks, a section that sleeps, or a sleep
-/// alone: these four by turns, and each thread begins with another one. With 2,000 rounds the code
-/// of a thread has 21,003 words.
+/// The file of the generator's guest, whose threads have so many rounds. A round is one of four: a
+/// section that increments a counter, a transfer between two locks, a section that sleeps, or a
+/// sleep alone. A thread takes them in turn, and each thread begins with another one. With 2,000
+/// rounds the code of a thread has 21,003 words.
 pub fn generate(alloc: Global, rounds: u32) -> Result<Vec<u8>, AllocError>
     requires some { 1 ≤ rounds }
     requires most { rounds ≤ MAX_ROUNDS }

@@ -2,9 +2,9 @@
 
 ghost use Rattle.tc_build.specs.Loaded.{DescribedLoads, GeneratedStands};
 
-/// A law of built files: where nothing is wrong with the entries and the guards that were
-/// described, `load` answers the image, want of memory apart; and nothing is wrong with those of
-/// the generator's guest. The function does nothing.
+/// Lemma of built files: if the described entries and guards are in order, `load` returns the image
+/// unless memory runs out. Those of the generator's guest are in order. The function has no effect
+/// when it is called.
 pub fn loading()
     ensures described { DescribedLoads }
     ensures generated { GeneratedStands }

@@ -1,4 +1,4 @@
--- What a desk's calls answer, with each call of the pass that was made.
+-- What a desk's calls answer, with each call of its pass.
 use Rattle.std.specs.Prelude.{◌⊎◌, ◌≡◌, ◌<◌, ℕ, ◌+◌, min, if◌then◌else◌, List, [], ◌∷◌, ◌++◌, Option, Some, None}
 use Rattle.tc_combiner.specs.Vocabulary.{Behind, PassCall, Did_adopt, Did_park, Did_stop, Done, Enter, First, GoesOn, HallView, DeskParts, HasBlock, IsNumber, IsOut, IsWaiting, Item, Link, LockView, MAX_NUMBER, Pack, PackageView, Parked, PassView, Place, Ready, SeatView, Settled, Shipped, Slept, Stopped, HallTerms, Turn, Waiting, is_running, last_of, locks, outs, put_call, threads, with_line, with_turns}
 use Rattle.tc_combiner.specs.Packages.{DidTake, HoldsNone, IsAside, IsGood, IsPlain, MayGoOn, Runs, Wants}
@@ -11,7 +11,7 @@ carried (GoesOn q) = Pack q ∷ []
 carried (Did_adopt q) = Pack q ∷ []
 carried r = []
 
--- the list got the threads that these calls put as ready; it is empty where the run was stopped
+-- the list got the threads that these calls put as ready; it is empty if the run was stopped
 abbrev pub HasReadied : ℕ → Settled → List ℕ → List ℕ → List PassCall → Type 0
 HasReadied threads Did_stop old new cs = new ≡ []
 HasReadied threads r old new cs = TakesDown threads old new cs
@@ -22,7 +22,7 @@ pub record Answers (k : HallTerms) (cs : List PassCall) (q : PackageView) (parts
   pub readied : HasReadied (threads k) r parts.old.ready.items parts.new.ready.items cs
   pub aside : (a : PackageView) → parts.new.aside ≡ Some a → IsAside k a
 
--- so, with calls of which How says what became of the package
+-- the same, with calls of which How says what became of the package
 pub record Does (k : HallTerms) (q : PackageView) (parts : Change DeskParts) (r : Settled) (How : List PassCall → Type 0) : Type 0 where
   pub calls : List PassCall
   pub answers : Answers k calls q parts r
@@ -39,7 +39,7 @@ pub record MayPutBack (hall : HallView) (p : PassView) (q : PackageView) : Type 
   pub out : IsOut (outs p.knows) (Pack q)
   pub plain : IsPlain (threads hall.terms) q
 
--- the calls that put back the one set aside, and before it this package
+-- the calls that put back this package and then the one set aside
 abbrev pub back_aside : Option PackageView → List PassCall
 back_aside None = []
 back_aside (Some a) = put_call a Ready ∷ []
@@ -62,24 +62,24 @@ pub record MayAsk (k : HallTerms) (i : ℕ) (q : PackageView) : Type 0 where
   pub plain : IsPlain (threads k) q
   pub want : Wants q i
 
--- the package q, which waits for lock i, may get it under the number n
+-- the package q, which waits for lock i, may get it under the queue number n
 pub record MayGetFirst (k : HallTerms) (i n : ℕ) (q : PackageView) : Type 0 where
   pub lock : i < locks k
   pub may : MayGoOn k q
   pub waits : IsWaiting q i
   pub number : IsNumber n
 
--- in the step x lock i was taken from its home for the package, which is r then, under the number n; or the run was stopped
+-- in the step x the package, now r, got lock i from its slot under the number n; or the run was stopped
 abbrev pub FirstAs : {Seats : Type 0} → DeskStep Seats → ℕ → ℕ → List PassCall → Option PackageView → Type 0
 FirstAs x i n cs (Some r) = (cs ≡ []) × (x.aside.new ≡ x.aside.old) × ((l : LockView) × DidTake i l n x.given r) × IsGood r x.image x.worker
 FirstAs x i n cs None = (cs ≡ Stopped 1 ∷ back x.given x.aside.old) × (x.aside.new ≡ None)
 
--- where the run was stopped no thread is told as ready
+-- if the run was stopped, no thread is reported as ready
 abbrev pub KeepsReady : Option PackageView → List ℕ → List ℕ → Type 0
 KeepsReady (Some r) old new = new ≡ old
 KeepsReady None old new = new ≡ []
 
--- so it was done for the turn that stands first in its line
+-- this was done for the turn that is first in its queue
 pub record DidFirst (k : HallTerms) (i n : ℕ) (q : PackageView) (parts : Change DeskParts) (r : Option PackageView) : Type 0 where
   pub calls : List PassCall
   pub acts : Acts calls (Pack q ∷ packed parts.old.aside) (packed r ++ packed parts.new.aside) parts.old.pass parts.new.pass
@@ -93,13 +93,13 @@ counted q = with_turns (min (q.turns + 1) MAX_NUMBER) q
 abbrev pub next_turn : PackageView → Turn
 next_turn q = record { thread = q.context.thread; number = min (q.turns + 1) MAX_NUMBER }
 
--- so it was taken for the package's next turn
+-- this was taken for the package's next turn
 abbrev pub TakenAs : DeskStep SeatView → ℕ → List PassCall → Option PackageView → Type 0
 TakenAs x i cs r = FirstAs (with_package (counted x.given) x) i (next_turn x.given).number cs r
 
--- in the step x the package entered the line of lock i with its next turn, with these calls and no others: it stood first, and
--- the lock was granted as Taken under the turn's number; or it stood behind another, was put as waiting with all its locks, and
--- linked
+-- in the step x the package entered the queue of lock i with its next turn, with these calls and no
+-- others: it was first, and the lock was granted as Taken under the turn's number; or it was behind
+-- another, was put as waiting with all its locks, and linked
 abbrev pub AcquiredAs : DeskStep SeatView → ℕ → List PassCall → Settled → Type 0
 AcquiredAs x i cs (GoesOn r) = (x.seats.new ≡ with_line x.seats.old (Enter (next_turn x.given) First)) × TakenAs x i cs (Some r)
 AcquiredAs x i cs Shipped = (mark : ℕ) × (x.seats.new ≡ with_line (with_line x.seats.old (Enter (next_turn x.given) (Behind mark))) (Link mark (next_turn x.given))) × (cs ≡ put_call (counted x.given) (Waiting i) ∷ []) × (x.aside.new ≡ x.aside.old)
@@ -123,11 +123,11 @@ pub record Parks (k : HallTerms) (q : PackageView) (parts : Change DeskParts) : 
 
 -- ---- a package that goes on, or is set aside
 
--- in the step x the package stays in hand
+-- in the step x the package stays current
 abbrev pub StaysInHand : {Seats : Type 0} → DeskStep Seats → List PassCall → PackageView → Type 0
 StaysInHand x cs r = (r ≡ x.given) × (x.aside.new ≡ x.aside.old) × (HoldsNone x.given → x.aside.old ≡ None) × (cs ≡ [])
 
--- it was adopted, holds no lock, and was handed back as ready, and the one that was set aside, r, is in hand
+-- it was adopted, holds no lock, and was given back as ready, and the one that was set aside, r, is current
 abbrev pub IsHandedBack : {Seats : Type 0} → DeskStep Seats → List PassCall → PackageView → Type 0
 IsHandedBack x cs r = (x.aside.old ≡ Some r) × HoldsNone x.given × (x.aside.new ≡ None) × (cs ≡ put_call x.given Ready ∷ [])
 
@@ -139,7 +139,7 @@ WentOn x cs r = ⊥
 abbrev pub Goes : HallTerms → PackageView → Change DeskParts → Settled → Type 0
 Goes k q parts r = Does k q parts r (λ cs. WentOn (by_parts k q at_none parts) cs r)
 
--- the package q is set aside, or it was handed back as ready where one is set aside already
+-- the package q is set aside, or it was given back as ready if one is set aside already
 abbrev pub SetAside : PackageView → Option PackageView → Option PackageView → List PassCall → Type 0
 SetAside q None b cs = (b ≡ Some q) × (cs ≡ [])
 SetAside q (Some a) b cs = (b ≡ Some a) × (cs ≡ put_call q Ready ∷ [])

@@ -1,4 +1,4 @@
--- What was before a step, and what is after it.
+-- A state before a step, and the state after it.
 
 pub record Change (A : Type 0) : Type 0 where
   pub old : A

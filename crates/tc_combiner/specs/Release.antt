@@ -1,4 +1,4 @@
--- What became of a released lock, and of all locks of a thread that has ended, with each call of the pass that was made.
+-- What became of a released lock, and of all locks of a thread that has ended, with each call of the pass.
 use Rattle.std.specs.Prelude.{◌⊎◌, ◌≡◌, ℕ, Bool, true, false, List, [], ◌∷◌, ◌++◌, ◌<◌, Some, None, is_some, ◌≢◌, ◌+◌, ◌≤◌, length}
 use Rattle.tc_combiner.specs.Vocabulary.{Adopted, Block, PassCall, Did_adopt, Did_stop, Done, Free, GoesOn, Granted, HallView, DeskParts, Has_ended, IsAtRest, IsTurn, Item, Kind, Knows, Leave, Left, LineCall, LockView, MAX_HELD, Next, Pack, PackageView, Passed, Ready, Releases, SeatView, Settled, Shown, Stopped, HallTerms, Turn, Was_adopted, Was_granted, Was_stopped, Went_home, bare, blocks_of, ends_thread, has, last_of, locked_in, locks, locks_of, may_adopt, number_in, put_call, run_of, threads, without_lock}
 use Rattle.tc_combiner.specs.Packages.{DidGrant, DidTakeOut, HasHeldAnd, IsGood, IsWaiter, Runs, HasNone}
@@ -20,7 +20,7 @@ pub record IsReleased (k : HallTerms) (v : Knows) (b : Block) (l : LockView) : T
   pub released : Releases l.number b
   pub worker : b.worker ≡ v.worker
 
--- package q, of a thread of the hall, released lock i of the hall with its last block b, a block of this pass, and has it still
+-- package q, of a thread of the hall, released lock i of the hall with its last block b, of this pass, and still has it
 pub record MayRelease (k : HallTerms) (v : Knows) (i : ℕ) (b : Block) (q : PackageView) : Type 0 where
   pub lock : i < locks k
   pub of : q.image ≡ v.image
@@ -70,7 +70,7 @@ GrantedAs image l b u cs Was_stopped = cs ≡ Stopped 1 ∷ Free l.number ∷ []
 abbrev pub SeatTells : DeskStep SeatView → LineCall → Type 0
 SeatTells x answer = Shows x.seats.old.calls x.seats.new.calls answer
 
--- in the step x the lock l of the turn own went to the turn behind it, or home where there is none
+-- in the step x the lock l of the turn own went to the turn behind it, or to its slot if there is none
 abbrev pub FollowedAs : DeskStep SeatView → LockView → Block → Turn → List PassCall → Passed → Type 0
 FollowedAs x l b own cs Went_home = SeatTells x (Leave own Left) × (cs ≡ Free l.number ∷ [])
 FollowedAs x l b own cs Was_granted = (u : Turn) × SeatTells x (Next own (Some u)) × GrantedAs x.image l b u cs Was_granted
@@ -88,8 +88,8 @@ pub record DidGrantNext (k : HallTerms) (l : LockView) (b : Block) (u : Turn) (x
   pub aside : parts.new.aside ≡ parts.old.aside
   pub became : GrantedAs k.image.value l b u calls r
 
--- lock i came out of the package, with xs in hand besides; How: what became of it, with these calls and no others. The first question
--- who stands behind needs no look at STOP, since `leave` follows where it is not answered
+-- lock i came out of the package, with xs out besides; How: what became of it, with these calls and no others.
+-- The first question who is behind needs no check of STOP, since `leave` follows if it is not answered
 pub record GaveUp (k : HallTerms) (i : ℕ) (q : Change PackageView) (xs : List Item) (seat : Change SeatView) (parts : Change DeskParts) (How : LockView → List PassCall → Type 0) : Type 0 where
   pub calls : List PassCall
   pub acted : Acted k calls (Pack q.old ∷ []) (Pack q.new ∷ xs) parts
@@ -100,7 +100,7 @@ pub record GaveUp (k : HallTerms) (i : ℕ) (q : Change PackageView) (xs : List 
   pub looks : LooksEachTime 1 parts.old.pass.knows parts.new.pass.knows (one_seat seat)
   pub became : How state calls
 
--- so lock i, which the block b of the package released
+-- this was done with lock i, which the block b of the package released
 abbrev pub DidPass : HallTerms → ℕ → Block → Change PackageView → Change SeatView → Change DeskParts → Passed → Type 0
 DidPass k i b q seat parts r = GaveUp k i q (adopted_in r) seat parts (λ l cs. FollowedAs (by_parts k q.old seat parts) l b (turn_of q.old i) cs r)
 
@@ -108,8 +108,8 @@ DidPass k i b q seat parts r = GaveUp k i q (adopted_in r) seat parts (λ l cs. 
 abbrev pub PassedAs : DeskStep SeatView → ℕ → Block → List PassCall → Passed → Type 0
 PassedAs x i b cs r = (l : LockView) × (locked_in x.given i ≡ Some l) × FollowedAs x l b (turn_of x.given i) cs r
 
--- how the unlock of lock i by the block b was settled in the step x, with these calls and no others: what became of the lock, and
--- then of the package without it
+-- how the unlock of lock i by the block b was settled in the step x, with these calls and no
+-- others: what became of the lock, and then of the package without it
 abbrev pub UnlockedAs : DeskStep SeatView → ℕ → Block → List PassCall → Settled → Type 0
 UnlockedAs x i b cs (GoesOn r) = (ds es : List PassCall) × (cs ≡ ds ++ es) × (PassedAs x i b ds Went_home ⊎ PassedAs x i b ds Was_granted) × WentOn (with_package (without_lock i x.given) x) es (GoesOn r)
 UnlockedAs x i b cs (Did_adopt r) = (ds es : List PassCall) × (cs ≡ ds ++ es) × PassedAs x i b ds (Was_adopted r) × SetAside (without_lock i x.given) x.aside.old x.aside.new es × IsGood r x.image x.worker
@@ -128,7 +128,7 @@ pub record AreSameSeats (ss ts : List SeatView) : Type 0 where
   pub count : length ts ≡ length ss
   pub each : (j : ℕ) → IsSameSeat (seat_at ss j) (seat_at ts j)
 
--- the seat i is of this, before and after, and the other seats are as they were
+-- the seat i changed like this, and the other seats are unchanged
 pub record AtSeat (i : ℕ) (ss ts : List SeatView) (P : SeatView → SeatView → Type 0) : Type 0 where
   pub same : AreSameSeats ss ts
   pub others : (j : ℕ) → j ≢ i → seat_at ts j ≡ seat_at ss j
@@ -148,14 +148,14 @@ pub record MayEnd (k : HallTerms) (v : Knows) (b : Block) (q : PackageView) : Ty
 
 -- ---- one lock
 
--- in the step x the lock l of an ended thread, whose turn there is own; was, is: whether the run was stopped before, and is now
+-- in the step x the lock l of an ended thread with turn own; was, is: whether the run was stopped before, and is now
 abbrev pub LeftAs : DeskStep SeatView → LockView → Block → Turn → List PassCall → Bool → Bool → Type 0
 LeftAs x l b own cs false false = FollowedAs x l b own cs Went_home ⊎ FollowedAs x l b own cs Was_granted
 LeftAs x l b own cs false true = FollowedAs x l b own cs Was_stopped
 LeftAs x l b own cs true false = ⊥
 LeftAs x l b own cs true true = (x.seats.new ≡ x.seats.old) × (cs ≡ Free l.number ∷ [])
 
--- so lock i of the package, whose thread ended with the block b; stopped: whether the run was stopped
+-- this was done with lock i of the package, whose thread ended with the block b; stopped: whether the run was stopped
 abbrev pub DidLeave : HallTerms → ℕ → Block → Change PackageView → Change SeatView → Change DeskParts → Change Bool → Type 0
 DidLeave k i b q seat parts stopped = GaveUp k i q [] seat parts (λ l cs. LeftAs (by_parts k q.old seat parts) l b (turn_of q.old i) cs stopped.old stopped.new)
 
@@ -175,12 +175,12 @@ pub record OneLeft (x : DeskStep SeatView) (b : Block) (i : ℕ) (was : Bool) : 
   pub stopped : Bool
   pub became : LeftAs x state b (turn_of x.given i) calls was stopped
 
--- so each of these locks, in this order, with these calls and no others
+-- the same for each of these locks, in this order, with these calls and no others
 abbrev pub LeftInOrder : DeskStep (List SeatView) → Block → List ℕ → List PassCall → Bool → Bool → Type 0
 LeftInOrder x b [] cs was end = (cs ≡ []) × (end ≡ was)
 LeftInOrder x b (i ∷ is) cs was end = (one : OneLeft (at_lock i x) b i was) × (es : List PassCall) × (cs ≡ one.calls ++ es) × LeftInOrder x b is es one.stopped end
 
--- the seats of the locks of the block b asked for their turns of the package q alone, and each other seat is as it was
+-- the seats of the locks of the block b asked only for their turns of the package q, and each other seat is unchanged
 pub record SeatsLeft (b : Block) (q : PackageView) (ss ts : List SeatView) : Type 0 where
   pub count : length ts ≡ length ss
   pub others : (j : ℕ) → has b.held j ≡ false → seat_at ts j ≡ seat_at ss j
@@ -196,8 +196,8 @@ pub record DidLeaveAll (k : HallTerms) (b : Block) (q : Change PackageView) (sea
   pub looks : LooksEachTime (length (locks_of b.held)) parts.old.pass.knows parts.new.pass.knows seats
   pub order : LeftInOrder (by_parts k q.old seats parts) b (locks_of b.held) calls false end
 
--- what became in the step x of the package, whose thread ended with the block b, with these calls and no others: each of its
--- locks was passed on, the least first, and then it was put as Done
+-- what became in the step x of the package, whose thread ended with the block b, with these calls
+-- and no others: its locks were passed on in ascending order, and then it was put as Done
 abbrev pub EndedAs : DeskStep (List SeatView) → Block → List PassCall → Settled → Type 0
 EndedAs x b cs Has_ended = (p : PackageView) × (ds : List PassCall) × (cs ≡ ds ++ put_call p Done ∷ []) × IsEmptied x.given p × LeftInOrder x b (locks_of b.held) ds false false × (x.aside.new ≡ x.aside.old)
 EndedAs x b cs Did_stop = (p : PackageView) × (ds : List PassCall) × (cs ≡ ds ++ back p x.aside.old) × IsEmptied x.given p × LeftInOrder x b (locks_of b.held) ds false true × (x.aside.new ≡ None)
@@ -209,7 +209,7 @@ Ends k b q seats parts r = Does k q parts r (λ cs. SeatsLeft b q seats.old seat
 
 -- ---- in between
 
--- the locks in rest wait, the others were passed on, or brought home where the run was stopped
+-- the locks in rest wait, the others were passed on, or put into their slots if the run was stopped
 pub record Ending (k : HallTerms) (b : Block) (q : Change PackageView) (rest : ℕ) (seats : Change (List SeatView)) (parts : Change DeskParts) (now : Bool) : Type 0 where
   pub calls : List PassCall
   pub acted : Acted k calls (Pack q.old ∷ []) (Pack q.new ∷ []) parts

@@ -1,4 +1,4 @@
--- What `settle` asks of a package, and what becomes of it by the end of its last block.
+-- What `settle` requires of a package, and what becomes of it by the end of its last block.
 use Rattle.std.specs.Prelude.{◌≡◌, ◌≢◌, ℕ, ◌+◌, ◌-◌, ◌^◌, min, true, List, [], ◌∷◌, ◌++◌, length, slice_set, Some, None, is_some}
 use Rattle.tc_combiner.specs.Vocabulary.{AllowsPending, AreTogether, Block, PassCall, Cut, DidRun, Did_park, End, GoesOn, HandsPending, IsSamePass, Pack, PackageView, Parked, Settled, Shown, Slept, HallTerms, Unlocked, Wants, has, last_by, last_of, locked_in, locks_of, put_call, threads, want_of}
 use Rattle.tc_combiner.specs.Packages.{HasOnlyHeld, IsAside, IsGoodFor}
@@ -9,28 +9,28 @@ use Rattle.tc_combiner.specs.Change.{change}
 use Rattle.tc_combiner.specs.Steps.{at_lock, by_desk}
 use Rattle.tc_combiner.specs.View.{BenchView, DeskView, FitsBench, seat_at}
 
--- the desk has the package in hand, apart from the one that is set aside
+-- the package is current at the desk, apart from the one that is set aside
 abbrev pub IsInHand : DeskView → PackageView → Type 0
 IsInHand d q = Owned d.pass.knows (Pack q ∷ packed d.aside)
 
--- a desk has its pass, its clock, and its places for sleepers
+-- a desk keeps its pass, its clock, and its places for sleepers
 pub record Works (d e : DeskView) : Type 0 where
   pub own : IsSamePass d.pass e.pass
   pub now : e.now ≡ d.now
   pub room : length e.sleepers ≡ length d.sleepers
 
--- the desk tells the threads that it put as ready in the call, in order; none where the run was stopped
+-- the desk reports the threads that it put as ready in the call, in order; none if the run was stopped
 abbrev pub TellsReady : HallTerms → Settled → DeskView → DeskView → Type 0
 TellsReady k r d e = (cs : List PassCall) × Adds cs d.pass.knows e.pass.knows × HasReadied (threads k) r [] e.handed cs
 
--- what a call of a desk with the package q in hand keeps, moves and tells: out then are what it answers and what is set aside
+-- what a call of a desk with the current package q keeps and says; out then are its answer and what is set aside
 pub record Keeps (b : BenchView) (q : PackageView) (d e : DeskView) (r : Settled) : Type 0 where
   pub works : Works d e
   pub moves : Moves d.pass.knows e.pass.knows (Pack q ∷ packed d.aside) (carried r ++ packed e.aside)
   pub readied : TellsReady b.hall.terms r d e
   pub fits : FitsBench b e
 
--- so it is with the parts of a desk
+-- the same for the parts of a desk
 pub record KeepsParts (k : HallTerms) (q : PackageView) (d e : DeskView) (r : Settled) : Type 0 where
   pub calls : List PassCall
   pub acts : Acts calls (Pack q ∷ packed d.aside) (carried r ++ packed e.aside) d.pass e.pass
@@ -40,8 +40,8 @@ pub record KeepsParts (k : HallTerms) (q : PackageView) (d e : DeskView) (r : Se
   pub clock : e.now ≡ d.now
   pub room : length e.sleepers ≡ length d.sleepers
 
--- a block made the package of one that the desk has in hand, the batch rule allows it the desk's worker, and it comes behind the
--- block with which that worker handed the lock over; where the worker's last block or the thread's was cut, it goes on from there
+-- a block made the package of the desk's current one, the batch rule allows it the desk's worker, and it
+-- follows the block by which that worker handed the lock over; after a cut, worker and thread go on together
 pub record MayCommit (d : DeskView) (q : PackageView) : Type 0 where
   pub before : PackageView
   pub hand : IsInHand d before
@@ -50,11 +50,11 @@ pub record MayCommit (d : DeskView) (q : PackageView) : Type 0 where
   pub handed : HandsPending d.pass.knows q
   pub together : AreTogether (last_by d.pass.knows) (last_of before.log)
 
--- once it is sealed: whoever had the package before its block out has the sealed one out, and the rest is out as it was
+-- once it is sealed: whoever had the old package out has the sealed one out, and what else is out is unchanged
 abbrev pub MovesSealed : PackageView → PackageView → DeskView → DeskView → Type 0
 MovesSealed q sealed d e = (p : PackageView) → DidRun d.pass.knows.image p q → Moves d.pass.knows e.pass.knows (Pack p ∷ []) (Pack sealed ∷ [])
 
--- a package that wants a lock, and has nothing granted and no lock but held ones
+-- a package that wants a lock, and has nothing granted and no lock except held ones
 pub record MayAcquire (image : Shown) (q : PackageView) : Type 0 where
   pub of : q.image ≡ image
   pub settled : q.pending ≡ None
@@ -62,8 +62,8 @@ pub record MayAcquire (image : Shown) (q : PackageView) : Type 0 where
   pub locks : HasOnlyHeld q
   pub wants : is_some (want_of q.image q.context) ≡ true
 
--- package q is in hand after its last block b, of this worker and with this end; the locks in it are those of the block: the
--- held ones and those that it released
+-- package q is current after its last block b, of this worker and with this end; the locks in it
+-- are those of the block: the held ones and those that it released
 pub record IsAfterBlock (image : Shown) (worker : ℕ) (end : End) (b : Block) (q : PackageView) : Type 0 where
   pub of : q.image ≡ image
   pub settled : q.pending ≡ None
@@ -76,13 +76,13 @@ pub record IsAfterBlock (image : Shown) (worker : ℕ) (end : End) (b : Block) (
 abbrev pub MaySettle : Shown → ℕ → End → PackageView → Type 0
 MaySettle image worker end q = (b : Block) × IsAfterBlock image worker end b q
 
--- the other seats and the sleepers are as they were
+-- the other seats and the sleepers are unchanged
 pub record IsSameBut (i : ℕ) (d e : DeskView) : Type 0 where
   pub others : (j : ℕ) → j ≢ i → seat_at e.seats j ≡ seat_at d.seats j
   pub sleepers : e.sleepers ≡ d.sleepers
 
--- what became of the package q, which wants lock i: with these calls of the pass and no others, as in the records below; for each try
--- of the desk that failed there was a look at STOP
+-- what became of the package q, which wants lock i: with these calls of the pass and no others, as
+-- in the records below; for each failed try of the desk there was a check of STOP
 pub record DidAcquire (i : ℕ) (q : PackageView) (d e : DeskView) (r : Settled) : Type 0 where
   pub same : IsSameBut i d e
   pub calls : List PassCall
@@ -90,8 +90,8 @@ pub record DidAcquire (i : ℕ) (q : PackageView) (d e : DeskView) (r : Settled)
   pub looks : LooksEachTime 0 d.pass.knows e.pass.knows (change d.seats e.seats)
   pub acquired : AcquiredAs (at_lock i (by_desk q d e)) i calls r
 
--- of one whose block b unlocked lock i: the seat has asked for its turn alone; for each try that failed, but for the first question
--- who stands behind, there was a look at STOP
+-- of one whose block b unlocked lock i: the seat has asked only for its turn; for each failed try,
+-- except the first question who is behind, there was a check of STOP
 pub record DidUnlock (i : ℕ) (q : PackageView) (b : Block) (d e : DeskView) (r : Settled) : Type 0 where
   pub same : IsSameBut i d e
   pub asks : Asks (turn_of q i) (seat_at d.seats i) (seat_at e.seats i)
@@ -107,8 +107,8 @@ pub record DidPark (q : PackageView) (d e : DeskView) : Type 0 where
   pub adds : Adds (put_call q Parked ∷ []) d.pass.knows e.pass.knows
   pub sleeper : e.sleepers ≡ slice_set d.sleepers q.context.thread (Some (min (d.now + q.slept) (2 ^ 64 - 1)))
 
--- of one whose thread ended with the block b: each seat of a lock of that block has asked for its turn alone; for
--- each try that failed, but for the first question at each lock, there was a look at STOP
+-- of one whose thread ended with the block b: each seat of a lock of that block has asked only for
+-- its turn; for each failed try, except the first question at each lock, there was a check of STOP
 pub record DidEnd (q : PackageView) (b : Block) (d e : DeskView) (r : Settled) : Type 0 where
   pub sleepers : e.sleepers ≡ d.sleepers
   pub seats : SeatsLeft b q d.seats e.seats
@@ -134,7 +134,7 @@ SettledAs Slept q b d e r = DidSleep q d e r
 SettledAs Cut q b d e r = DidNothing q d e r
 SettledAs end q b d e r = DidEnd q b d e r
 
--- a package that wants a lock was acquired for
+-- the lock that a package wants was acquired
 abbrev pub HasAcquired : PackageView → DeskView → DeskView → Settled → Type 0
 HasAcquired q d e r = (i : ℕ) × (want_of q.image q.context ≡ Some i) × DidAcquire i q d e r
 

@@ -4,7 +4,7 @@ use Rattle.tc_combiner.specs.Vocabulary.{HallView, DeskParts, IsSeatOf, PackageV
 use Rattle.tc_combiner.specs.Packages.{IsAside}
 use Rattle.tc_combiner.specs.Walks.{Owned, packed}
 
--- the number of blocks that it committed is `now`; `handed` are the threads that its last call put as ready
+-- `now` is the number of blocks that it committed; `handed` are the threads that its last call put as ready
 pub record DeskView : Type 0 where
   pub pass : PassView
   pub seats : List SeatView
@@ -41,7 +41,7 @@ pub record HasSeats {X S : Type 0} (queue : X → QueueView) (seen : S → SeatV
   pub seats : length ss ≡ locks k
   pub of : AreSeats k (map queue qs) (map seen ss)
 
--- a desk fits a bench; what is set aside is out in its pass
+-- a desk fits a bench; its pass has the package set aside out
 pub record FitsBench (bench : BenchView) (d : DeskView) : Type 0 where
   pub hall : bench.hall.terms.image.value ≡ bench.image
   pub own : d.pass.table ≡ bench.hall.table
@@ -53,7 +53,7 @@ pub record FitsBench (bench : BenchView) (d : DeskView) : Type 0 where
   pub aside : (a : PackageView) → d.aside ≡ Some a → IsAside bench.hall.terms a
   pub out : Owned d.pass.knows (packed d.aside)
 
--- a seat that no desk has, where a list is read past its end
+-- the value of a list of seats past its end
 abbrev pub no_seat : SeatView
 no_seat = record { table = record { words = 0; slots = 0; views_name = 0; atom = 0; block = 0; offset = 0; slot_names = [] }; threads = 0; calls = [] }
 

@@ -1,4 +1,4 @@
--- The words of the layers below, and of the types of this crate, that the files beside this one speak of.
+-- Definitions of the layers below, and of the types of this crate, that the files beside this one use.
 pub use Rattle.tc_isa.specs.Sets.{has, locks_of}
 pub use Rattle.tc_isa.specs.declared.limits.TheConstants.{MAX_HELD}
 pub use Rattle.tc_elf.specs.Shown.{Shown}

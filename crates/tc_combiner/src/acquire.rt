@@ -1,4 +1,4 @@
-//! What `acquire` does, and how packages are put back where the run was stopped.
+//! What `acquire` does, and how packages are put back when the run was stopped.
 
 ghost use Rattle.std.specs.Prelude.{◌≡◌, ◌<◌, [], ◌∷◌};
 ghost use Rattle.tc_turn.specs.Turn.{is_running};
@@ -31,7 +31,7 @@ fn is_running(package: &Package) -> bool
     matches!(package.status(), Status::Running)
 }
 
-/// Puts a package back, as ready or, where its thread has ended, as done.
+/// Puts a package back, as ready or, if its thread has ended, as done.
 fn put_back(hall: &Hall, pass: &mut Pass, package: Package)
     requires { MayPutBack hall.now pass.old «package» }
     ensures { Acts (put_call «package» (place_back «package») ∷ []) (Pack «package» ∷ []) []
@@ -44,7 +44,7 @@ fn put_back(hall: &Hall, pass: &mut Pass, package: Package)
     calls::put(hall, pass, package, Place::Done);
 }
 
-/// Puts back the package in hand and the one set aside, and tells no thread as ready.
+/// Puts back the current package and the one set aside, and offers no thread as ready.
 pub(crate) fn put_all_back(hall: &Hall, parts: &mut DeskParts, package: Package)
     requires parts { IsAtHall hall.now (Pack «package» ∷ packed parts.old.aside) parts.old }
     requires plain { IsPlain (threads hall.now.terms) «package» }
@@ -57,7 +57,8 @@ pub(crate) fn put_all_back(hall: &Hall, parts: &mut DeskParts, package: Package)
     }
 }
 
-/// Takes the lock for a turn that stands first in its line. None: the run was stopped.
+/// Takes the lock for a turn that is first in its queue. None: the run was stopped.
+/// Always inlined, as `acquire_at` is.
 #[inline(always)]
 fn acquire_first<R: Wait>(
     rt: &R,
@@ -84,6 +85,7 @@ fn acquire_first<R: Wait>(
 }
 
 /// What `acquire` does, with what it needs of the desk.
+/// Always inlined, as `acquire_at` is.
 #[inline(always)]
 pub(crate) fn acquire_with<R: Wait, Q: Waiters>(
     rt: &R,

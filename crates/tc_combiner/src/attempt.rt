@@ -1,11 +1,11 @@
-//! What one try of a wait came to.
+//! The result of one try of a wait.
 
-/// What one try of a wait came to.
+/// The result of one try of a wait.
 #[derive(Drop)]
 pub(crate) enum Attempt<T> {
-    /// This, which was asked for.
+    /// What was asked for.
     Came(T),
-    /// Nothing, and the run goes on: it is tried again.
+    /// Nothing, and the run goes on: try again.
     Refused,
     /// Nothing, and the run was stopped.
     Stopped,

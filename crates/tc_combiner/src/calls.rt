@@ -1,5 +1,5 @@
 //! The calls of the hall, as a desk makes them: which calls each adds to the list of the pass, and
-//! how what the pass has out changes.
+//! what the pass has out afterwards.
 
 ghost use Rattle.std.specs.Prelude.{◌≡◌, [], ◌∷◌};
 ghost use Rattle.tc_hall.specs.Steps.{put_call};

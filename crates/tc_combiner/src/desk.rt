@@ -1,4 +1,4 @@
-//! Desks and benches.
+//! Desks (per-worker combiners) and benches (what they share).
 
 ghost use Rattle.std.specs.Prelude.{◌≡◌, ◌<◌, ◌≤◌, ◌+◌, ◌-◌, ◌^◌, [], None, Some, min, length, map};
 ghost use Rattle.std.specs.Borrow.{Lends, sem};
@@ -31,7 +31,7 @@ use tc_queue::Waiters;
 pub struct Bench<'a, Q: Waiters> {
     /// The guest that runs.
     pub image: &'a Image,
-    /// Where packages and lock states change hands.
+    /// The table through which packages and lock states change hands.
     pub hall: &'a Hall,
     /// The queues of the locks, in order of number.
     pub queues: &'a [Q],
@@ -46,7 +46,7 @@ impl<'a, Q: Waiters> Model for Bench<'a, Q> {
     ghost view = { λ b. record { image = b.image.now; hall = b.hall.now; queues = map Q.queue b.queues.now } };
 }
 
-/// A worker's place.
+/// The combiner of a worker.
 #[derive(Drop)]
 pub struct Desk<Q: Waiters> {
     parts: DeskParts,
@@ -64,8 +64,8 @@ impl<Q: Waiters> Model for Desk<Q> {
 }
 
 impl<Q: Waiters> Desk<Q> {
-    /// The place of the pass's worker, with one seat of each queue, in order of lock. Its clock
-    /// starts at 0, nothing is set aside, and it put no thread as ready.
+    /// The desk of the pass's worker, with one seat of each queue, in order of lock. Its clock
+    /// starts at 0, nothing is set aside, and it has put no thread as ready.
     pub fn new(pass: Pass, seats: Vec<Q::Seat>, sleepers: Sleepers) -> Desk<Q>
         ensures { result ≡ desk_of pass (map Q.seen seats.items) sleepers 0 None [] }
     {
@@ -96,14 +96,14 @@ impl<Q: Waiters> Desk<Q> {
         &mut self.sleeping.sleepers
     }
 
-    /// The clock: how many blocks it committed, unless it was advanced.
+    /// The clock: how many blocks it has committed, unless it was advanced.
     pub fn now(&self) -> u64
         ensures { result ≡ self.now.now }
     {
         self.sleeping.clock
     }
 
-    /// Moves the clock on, to a turn that is not before.
+    /// Advances the clock to a turn that is not before now.
     pub fn advance(&mut self, to: u64)
         requires { self.old.now ≤ to }
         ensures { self.new ≡ record self.old { now = to } }
@@ -111,8 +111,8 @@ impl<Q: Waiters> Desk<Q> {
         self.sleeping.clock = to;
     }
 
-    /// Seals the package's pending block, with a stamp that is the answer. The clock rises by 1; one
-    /// that stands at the greatest u64 stays there.
+    /// Seals the package's pending block, and returns its stamp. The clock is incremented; it
+    /// saturates at the greatest u64.
     pub fn commit(&mut self, bench: &Bench<'_, Q>, package: &mut Package) -> u64
         requires fits { FitsBench bench.now self.old }
         requires may { MayCommit self.old «package».old }
@@ -130,9 +130,9 @@ impl<Q: Waiters> Desk<Q> {
         stamp
     }
 
-    /// Enters the queue of the lock that the package wants. Where nobody is there, it takes the lock,
-    /// once it is home, and the package goes on; else the package waits, with all its locks, and is
-    /// linked. It may wait for the lock, until the run is stopped.
+    /// Enters the queue of the lock that the package wants. If nobody is there, it takes the lock,
+    /// once that is free, and the package goes on. Otherwise the package waits with all its locks
+    /// and is linked. The call may wait for the lock, until the run is stopped.
     pub fn acquire<R: Wait>(&mut self, rt: &R, bench: &Bench<'_, Q>, package: Package) -> Settled
         requires fits { FitsBench bench.now self.old }
         requires hand { IsInHand self.old «package» }
@@ -147,7 +147,7 @@ impl<Q: Waiters> Desk<Q> {
         }
     }
 
-    /// Does what `acquire` does, for a caller who has asked the package which lock it wants.
+    /// As `acquire`, for a caller who has asked the package which lock it wants.
     pub fn acquire_lock<R: Wait>(
         &mut self,
         rt: &R,
@@ -178,8 +178,8 @@ impl<Q: Waiters> Desk<Q> {
         )
     }
 
-    /// Does with a package what the end of its last block asks. It may wait: for a lock that is not
-    /// home yet, for a waiter that is not linked or not put yet, until the run is stopped.
+    /// Does with a package what the end of its last block requires. It may wait: for a lock that is
+    /// not free yet, or for a waiter that is not linked or not put yet, until the run is stopped.
     pub fn settle<R: Wait>(
         &mut self,
         rt: &R,
@@ -220,8 +220,8 @@ impl<Q: Waiters> Desk<Q> {
         self.parts.aside.take()
     }
 
-    /// The threads that the last `acquire` or `settle` put as ready, in that order: a waiter that was
-    /// granted a lock, and an adopted package that was handed back. None where the run was stopped.
+    /// The threads that the last `acquire` or `settle` put as ready, in that order: a waiter that
+    /// was granted a lock, and an adopted package that was given back. Empty if the run was stopped.
     pub fn handed(&self) -> &[u32]
         ensures threads { result.now ≡ self.now.handed }
         ensures few { length result.now ≤ MAX_HELD }
@@ -229,7 +229,7 @@ impl<Q: Waiters> Desk<Q> {
         self.parts.ready.as_slice()
     }
 
-    /// Ends the place.
+    /// Ends the desk.
     pub fn finish(self) -> (Pass, Vec<Q::Seat>)
         requires { self.aside ≡ None }
         ensures pass { result.0 ≡ self.pass }

@@ -1,4 +1,4 @@
-//! What `settle` does where a thread sleeps, and where it has ended.
+//! What `settle` does when a thread sleeps, and when it has ended.
 
 ghost use Rattle.std.specs.Prelude.{◌≡◌, ◌<◌, ◌≤◌, ◌-◌, ◌+◌, ◌^◌, [], ◌∷◌, Some, true, min, length, map, slice_set, false};
 ghost use Rattle.tc_isa.specs.Sets.{locks_of};
@@ -27,7 +27,7 @@ use tc_journal::block::Block;
 use tc_nested::first_release;
 use tc_queue::Waiters;
 
-/// Puts the package as parked, and enters its thread among the sleepers.
+/// Puts the package as parked, and adds its thread to the sleepers.
 pub(crate) fn park(hall: &Hall, parts: &mut DeskParts, sleeping: &mut Sleeping, package: Package)
     requires parts { IsAtHall hall.now (Pack «package» ∷ packed parts.old.aside) parts.old }
     requires room { threads hall.now.terms ≤ length sleeping.old.sleepers }
@@ -44,7 +44,7 @@ pub(crate) fn park(hall: &Hall, parts: &mut DeskParts, sleeping: &mut Sleeping, 
     sleeping.sleepers.add(thread, due);
 }
 
-/// Frees one lock of a thread that has ended, where the run was stopped before: nobody is asked for.
+/// Frees one lock of a thread that has ended, after a stop: no waiter is asked for.
 fn free_one(hall: &Hall, parts: &mut DeskParts, package: &mut Package, released: Released<'_>)
     requires { MayPassOn hall.now released.lock released.block.now «package».old parts.old }
     ensures { (s : SeatView) → DidLeave hall.now.terms released.entry.lock released.entry.block.now
@@ -55,7 +55,7 @@ fn free_one(hall: &Hall, parts: &mut DeskParts, package: &mut Package, released:
     calls::free(hall, &mut parts.pass, state);
 }
 
-/// Passes on one lock of a thread that has ended. Whether the run was stopped.
+/// Passes on one lock of a thread that has ended, and says whether the run was stopped.
 fn end_one<R: Wait, Q: Waiters>(
     rt: &R,
     hall: &Hall,
@@ -79,7 +79,7 @@ fn end_one<R: Wait, Q: Waiters>(
     }
 }
 
-/// Passes on the locks of a thread that has ended, the least first. Whether the run was stopped.
+/// Passes on the locks of a thread that has ended in ascending order; says whether the run was stopped.
 fn end_all<R: Wait, Q: Waiters>(
     rt: &R,
     shared: &Shared<'_, Q>,

@@ -1,22 +1,22 @@
-//! Who stands behind a turn.
+//! Who is behind a turn.
 
 use tc_queue::Turn;
 
-/// Who stands behind a turn, by one question.
+/// Who is behind a turn, asked once.
 #[derive(Clone, Copy)]
 pub(crate) enum Asked {
-    /// Nobody: the line was left.
+    /// Nobody: the queue was left.
     Nobody,
     /// This turn.
     Next(Turn),
-    /// Somebody, who is not linked yet.
+    /// Somebody who is not linked yet.
     Unlinked,
 }
 
-/// Who stands behind a turn, once it is known.
+/// Who is behind a turn, once it is known.
 #[derive(Clone, Copy)]
 pub(crate) enum Found {
-    /// Nobody: the line was left.
+    /// Nobody: the queue was left.
     Nobody,
     /// This turn.
     Next(Turn),

@@ -13,12 +13,12 @@ pub(crate) struct Released<'a> {
 /// What became of a released lock.
 #[derive(Drop)]
 pub(crate) enum Passed {
-    /// It is home: nobody stood behind.
+    /// It is free: nobody was behind.
     Home,
-    /// It was granted to a waiter, which is ready.
+    /// It was granted to a waiter, which is now ready.
     Granted,
-    /// It was granted to a waiter, which the worker has in hand.
+    /// It was granted to a waiter, which is the worker's current package.
     Adopted(Package),
-    /// The run was stopped, and the lock is home.
+    /// The run was stopped, and the lock is free.
     Stopped,
 }

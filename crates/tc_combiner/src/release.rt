@@ -74,7 +74,7 @@ fn grant_next<R: Wait>(
     }
 }
 
-/// Takes a released lock out of its package, and grants it to the turn behind or brings it home.
+/// Takes a released lock out of its package, and grants it to the turn behind or frees it.
 pub(crate) fn pass_on<R: Wait, Q: Waiters>(
     rt: &R,
     hall: &Hall,

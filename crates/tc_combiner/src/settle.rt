@@ -22,6 +22,7 @@ use tc_journal::block::{Block, End};
 use tc_queue::Waiters;
 
 /// What `acquire` does, at the lock's place in the bench.
+/// Always inlined into both callers, since the compiler by itself inlines what has one caller.
 #[inline(always)]
 pub(crate) fn acquire_at<R: Wait, Q: Waiters>(
     rt: &R,
@@ -95,7 +96,7 @@ pub(crate) fn settle_with<R: Wait, Q: Waiters>(
         (desk_with parts.new (map Q.seen seats.new) sleeping.new) result }
 {
     parts.ready.clear();
-    // For the proofs alone: what each package keeps holds of this one. So at each `keeps`; no code runs.
+    // For the proofs only: the package's invariant. The same at each `keeps`; no code runs.
     package.keeps();
     match end {
         End::Wants(lock) => acquire_at(rt, shared, parts, seats, package, lock),

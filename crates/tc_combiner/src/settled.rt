@@ -2,12 +2,12 @@
 
 use tc_context::package::Package;
 
-/// What `acquire` and `settle` answer: what became of the package in hand.
+/// What `acquire` and `settle` answer: what became of the current package.
 #[derive(Drop)]
 pub enum Settled {
-    /// This package runs on: the same one, or the one that was set aside.
+    /// This package goes on: the same one, or the one that was set aside.
     GoesOn(Package),
-    /// This package of a waiter runs now: it was granted the lock that was released.
+    /// This package of a waiter runs now: it was granted the released lock.
     Adopted(Package),
     /// It waits for the lock that it wants, with all its locks.
     Shipped,
@@ -15,6 +15,6 @@ pub enum Settled {
     Parked,
     /// Its thread has ended, and its locks were passed on.
     Ended,
-    /// The run was stopped. Each package that was in hand or set aside was put back.
+    /// The run was stopped. The current package and the one set aside were put back.
     Stopped,
 }

@@ -31,7 +31,7 @@ fn holds_none(package: &Package) -> bool
     first_release(package.held()).is_none()
 }
 
-/// The package goes on. An adopted one that holds no lock is handed back, and the one that was set
+/// The package goes on. An adopted one that holds no lock is given back, and the one that was set
 /// aside goes on.
 fn resume(hall: &Hall, parts: &mut DeskParts, package: Package) -> Settled
     requires parts { MayAct hall.now (Pack «package» ∷ packed parts.old.aside) 1 parts.old }
@@ -51,7 +51,7 @@ fn resume(hall: &Hall, parts: &mut DeskParts, package: Package) -> Settled
     }
 }
 
-/// The package is set aside, or handed back where one is set aside already.
+/// Sets the package aside, or gives it back if one is set aside already.
 fn set_aside(hall: &Hall, parts: &mut DeskParts, package: Package)
     requires parts { MayAct hall.now (Pack «package» ∷ packed parts.old.aside) 1 parts.old }
     requires may { IsAside hall.now.terms «package» }

@@ -1,4 +1,4 @@
-//! The three waits of a desk, and one try of each. Each looks at STOP after each try that failed.
+//! The three waits of a desk, and one try of each. Each checks STOP after each failed try.
 
 ghost use Rattle.std.specs.Prelude.{ℕ, ◌≡◌, ◌<◌, ◌≤◌, [], ◌∷◌};
 ghost use Rattle.tc_hall.specs.Rule.{threads, locks};
@@ -20,7 +20,7 @@ use tc_hall::pass::Pass;
 use tc_queue::{Departure, Turn, Waiters};
 use tc_segment::state::LockState;
 
-/// Tries to take the lock, and looks at STOP where it is not home.
+/// Tries to take the lock, and checks STOP if it is out.
 fn try_take(hall: &Hall, pass: &mut Pass, lock: u32) -> Attempt<LockState>
     requires own { pass.old.table ≡ hall.now.table }
     requires place { lock < locks hall.now.terms }
@@ -37,7 +37,7 @@ fn try_take(hall: &Hall, pass: &mut Pass, lock: u32) -> Attempt<LockState>
     }
 }
 
-/// Tries to take the waiter's package, and looks at STOP where it does not wait.
+/// Tries to take the waiter's package, and checks STOP if it does not wait.
 fn try_adopt(hall: &Hall, pass: &mut Pass, t: u32, lock: u32) -> Attempt<Package>
     requires own { pass.old.table ≡ hall.now.table }
     requires places { (t < threads hall.now.terms) × (lock < locks hall.now.terms) }
@@ -57,7 +57,7 @@ fn try_adopt(hall: &Hall, pass: &mut Pass, t: u32, lock: u32) -> Attempt<Package
     }
 }
 
-/// Asks for the turn behind, and looks at STOP where it is not linked.
+/// Asks for the turn behind, and checks STOP if it is not linked.
 fn try_next<R: Wait, Q: Waiters>(
     rt: &R,
     hall: &Hall,
@@ -82,7 +82,7 @@ fn try_next<R: Wait, Q: Waiters>(
     }
 }
 
-/// Takes the lock once it is home. None: the run was stopped.
+/// Takes the lock once it is free. None: the run was stopped.
 pub(crate) fn await_lock<R: Wait>(
     rt: &R,
     hall: &Hall,
@@ -127,7 +127,7 @@ pub(crate) fn await_package<R: Wait>(
     unreachable!()
 }
 
-/// Asks once for the turn behind, and leaves where there is none.
+/// Asks once for the turn behind, and leaves if there is none.
 fn ask<R: Wait, Q: Waiters>(rt: &R, queue: &Q, seat: &mut Q::Seat, own: Turn) -> Asked
     requires asks { MayCall (Q.queue queue.now) (Q.seen seat.old) own }
     ensures asked { AskedAs own (Q.seen seat.old) (Q.seen seat.new) result }
@@ -143,7 +143,7 @@ fn ask<R: Wait, Q: Waiters>(rt: &R, queue: &Q, seat: &mut Q::Seat, own: Turn) ->
     }
 }
 
-/// Finds the turn behind this one, once it is linked, or leaves the line where nobody is behind.
+/// Finds the turn behind this one, once it is linked, or leaves the queue if nobody is behind.
 pub(crate) fn find_next<R: Wait, Q: Waiters>(
     rt: &R,
     hall: &Hall,

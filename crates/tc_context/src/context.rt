@@ -308,7 +308,8 @@ impl Context {
             slept: turns.slept,
             next: turns.next,
         };
-        // Each journal copies it from where it stands.
+        // Each journal copies it from the log, where it is one piece of memory: copied field by field it took
+        // twenty instructions more.
         let last = log.len();
         log.push_reserved(ran.block);
         let packed = self

@@ -56,7 +56,7 @@ impl LockSet {
         Ok(LockSet { places })
     }
 
-    /// There is none past the last place. A law: it does nothing when it is called.
+    /// Nothing is stored past the last place. A lemma: the function has no effect.
     pub fn bound(&self)
         ensures past { (k : ℕ) → PLACES ≤ k → lock_in self.now k ≡ None }
         ensures places { length self.now ≡ PLACES }
@@ -80,7 +80,7 @@ impl LockSet {
         self.places[number as usize] = Some(lock);
     }
 
-    /// Takes out the lock state of that number.
+    /// Removes the lock state of that number.
     pub fn take_out(&mut self, lock: u32) -> Option<LockState>
         requires { lock < PLACES }
         ensures taken { result ≡ lock_in self.old lock }
@@ -200,6 +200,7 @@ impl LockSet {
     }
 
     /// As `note`, with a look at each lock.
+    /// Always inlined: it has two callers, one of which runs once a section.
     #[inline(always)]
     pub(crate) fn note_each(&mut self, held: Held, want: Want, next: Option<u32>, value: u32)
         requires opened { EachHeld (has held) (λ l. is_some l.journal.opened ≡ true) self.old }
@@ -327,6 +328,7 @@ impl LockSet {
     }
 
     /// Each lock after a turn that did this, of a thread that held these locks before it.
+    /// Always inlined: it has two callers, one of which is rare.
     #[inline(always)]
     pub(crate) fn take_turn(&mut self, held: Held, done: &Option<Done>)
         requires fits { TurnFits done.now }

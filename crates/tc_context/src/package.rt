@@ -40,7 +40,7 @@ const FIRST_BLOCKS: usize = 1_024;
 
 const MORE_BLOCKS: usize = 4_096;
 
-/// The greatest number of a queue turn.
+/// The greatest number of a queue turn (ticket).
 pub const MAX_NUMBER: u64 = 16_777_215;
 
 /// A lock that was granted to a thread which has not taken it yet.
@@ -74,7 +74,7 @@ struct Contents {
     edge: Edge,
 }
 
-/// A thread's whole context.
+/// The whole execution context of a thread.
 #[derive(Drop)]
 pub struct Package {
     contents: Box<Contents>,
@@ -94,7 +94,7 @@ impl Model for Package {
 }
 
 impl Package {
-    /// What each package keeps, wherever it is. A law: it does nothing when it is called.
+    /// The invariant of each package, wherever it is. A lemma: the function has no effect.
     pub fn keeps(&self)
         ensures sound { IsSoundPackage self.now }
         ensures want { WantIsLawful self.now }
@@ -117,7 +117,7 @@ impl Package {
         *self.contents.context.guest.regs()
     }
 
-    /// How many instructions the thread may still run.
+    /// The fuel of the thread.
     pub fn fuel(&self) -> u32
         ensures { result ≡ fuel_in self.now }
     {
@@ -138,15 +138,15 @@ impl Package {
         self.contents.context.guest.held()
     }
 
-    /// The blocks that the thread ran, in their order. The last one has no stamp and no worker yet
-    /// while it is pending.
+    /// The blocks that the thread ran, in order. While the last one is pending, it has no stamp and
+    /// no worker yet.
     pub fn log(&self) -> &[Block]
         ensures { result.now ≡ self.now.log }
     {
         &self.contents.log
     }
 
-    /// The last block of the log: the pending one, where one is pending.
+    /// The last block of the log: the pending one, if there is one.
     pub fn last(&self) -> Block
         requires { 0 < length self.now.log }
         ensures { last_of self.now.log ≡ Some result }
@@ -170,7 +170,7 @@ impl Package {
         self.contents.pending
     }
 
-    /// The byte of the thread's own memory at an address, None exactly where the address is not in
+    /// The byte of the thread's own memory at an address; None if and only if the address is not in
     /// it.
     pub fn byte(&self, addr: u32) -> Option<u8>
         ensures { result ≡ own_in self.now addr }
@@ -181,8 +181,8 @@ impl Package {
         }
     }
 
-    /// The lock of the thread's next turn, exactly where the thread runs, has fuel and its next
-    /// instruction is a lawful LOCK.
+    /// The lock that the thread's next step takes: Some if and only if the thread runs, has fuel
+    /// and its next instruction is a LOCK that does not fault.
     pub fn want(&self, image: &Image) -> Option<u32>
         requires { self.now.image ≡ image.now }
         ensures { result ≡ want_of image.now self.now.context }
@@ -194,15 +194,15 @@ impl Package {
         self.contents.next
     }
 
-    /// The lock that was granted and whose LOCK turn has not come.
+    /// The lock that was granted and that the thread has not taken yet.
     pub fn granted(&self) -> Option<u32>
         ensures { result ≡ granted_lock self.now.granted }
     {
         Some(self.contents.granted?.lock)
     }
 
-    /// Whether the package may go on at its worker alone: a lock was granted to it as Adopted, or its
-    /// last block was cut.
+    /// Whether the package can go on at its worker only: a lock was granted to it as Adopted, or
+    /// its last block was cut.
     pub fn is_pinned(&self) -> bool
         ensures { result ≡ is_pinned self.now }
     {
@@ -213,7 +213,7 @@ impl Package {
         adopted || self.was_cut()
     }
 
-    /// Whether the last block of its log was cut, after as many turns as a block may have.
+    /// Whether the last block of its log was cut, after the most steps that a block may have.
     pub fn was_cut(&self) -> bool
         ensures { result ≡ was_cut (last_of self.now.log) }
     {
@@ -235,9 +235,9 @@ impl Package {
         Package::start_with(alloc, image, &code, &first, t, fuel)
     }
 
-    /// The same, which runs by decoded code that it shares with others, and begins with memory that
-    /// it shares with them until its first `reserve`, which makes its own. So the memory of each
-    /// thread is made by the worker that runs it.
+    /// Like `start`, but with decoded code that it shares with others, and with initial memory that
+    /// it shares until its first `reserve`, which makes a copy. So the worker that runs a thread
+    /// makes the thread's memory.
     pub fn start_with(
         alloc: Global,
         image: &Image,
@@ -297,10 +297,10 @@ impl Package {
         }
     }
 
-    /// Makes room for one block in the log, and in each lock that is in the package for one entry
-    /// and as many foreign words as a block has turns. The first call gives the thread its own copy
-    /// of the memory with which it begins. Nothing else changes, and after a refusal nothing does
-    /// but rooms.
+    /// Makes room for one block in the log, and in each lock of the package for one entry and
+    /// as many foreign words as a block has steps. The first call gives the thread its own
+    /// copy of its initial memory. Nothing else changes; after a refusal only capacities
+    /// have.
     pub fn reserve(&mut self) -> Result<(), AllocError>
         ensures ok { OnOk result (IsReserved self.new) }
         ensures same { IsRoomier self.old self.new }
@@ -320,7 +320,7 @@ impl Package {
         Ok(())
     }
 
-    /// Runs one block of the thread, whose turns and end are those by the rule of blocks, and
+    /// Runs one block of the thread, with the steps and the end that the rule of blocks says, and
     /// gives each lock of the block its entry. The block is pending afterwards. A lock that it
     /// released stays in the package until it is taken out.
     pub fn run_block(&mut self, image: &Image) -> End
@@ -381,8 +381,8 @@ impl Package {
         contents.pending = false;
     }
 
-    /// Puts a lock into the package as it is: the thread's next turn takes it. `number` is the
-    /// number of the queue turn with which the thread got it.
+    /// Puts a lock into the package unchanged: the thread's next step takes it. `number` is that of
+    /// the queue turn (ticket) with which the thread got it.
     pub fn grant(&mut self, lock: LockState, kind: Kind, number: u64)
         requires waiting { IsWaiting self.old lock.number }
         requires rest { IsAtRest self.old.image lock.number lock }
@@ -404,7 +404,9 @@ impl Package {
         contents.granted = Some(granted);
     }
 
-    /// Takes out a lock that the last block released, as it is.
+    /// Removes a lock that the last block released, unchanged.
+    /// Nothing is granted meanwhile: so a granted lock, which the thread does not hold yet either, need not be
+    /// told from a released one.
     pub fn take_out(&mut self, lock: u32) -> LockState
         requires pending { self.old.pending ≡ None }
         requires granted { self.old.granted ≡ None }
@@ -423,8 +425,8 @@ impl Package {
         }
     }
 
-    /// The number of the next queue turn: 1, 2, 3 and so on. It stays at 16,777,215 once it is
-    /// there.
+    /// The number of the next queue turn: 1, 2, 3 and so on. It never exceeds
+    /// 16,777,215.
     pub fn next_number(&mut self) -> u64
         ensures is { result ≡ min (self.old.turns + 1) 16777215 }
         ensures number { IsNumber result }

@@ -1,4 +1,4 @@
--- What goes on: how long a thread waits, how much there is to do, and that all can come to an end.
+-- Progress: how long a thread waits, how much work there is, and that all threads can end.
 use Rattle.std.specs.Prelude.{◌≡◌, ℕ, ◌+◌, ◌*◌, ◌<◌, ◌≤◌, Bool, true, false, nat_eq, if◌then◌else◌, List, [], ◌∷◌, ◌++◌, length, Option, Some, None}
 use Rattle.std.specs.List.{IsDistinct, list_any}
 use Rattle.tc_elf.specs.Shown.{Shown}
@@ -15,7 +15,7 @@ use Rattle.tc_core.specs.Stories.{Story, AreEnabled, after_all, last_core, turns
 
 -- ---- how long a thread waits
 
--- in the story a thread enters the line of a lock, and by the events that have come since it was not given the lock
+-- in the story a thread enters the queue of a lock, and the events since then have not given it the lock
 pub record Wait (s : Story) : Type 0 where
   pub worker : ℕ
   pub thread : ℕ
@@ -25,18 +25,18 @@ pub record Wait (s : Story) : Type 0 where
   pub all : s.events ≡ before ++ Enter worker thread lock ∷ since
   pub waits : is_in_line (grants_of lock since) thread ≡ false
 
--- the line that the thread found there
+-- the queue that the thread found there
 abbrev pub line_found : (s : Story) → Wait s → List ℕ
 line_found s w = ((after_all s.image (first_core s.image s.fuel) w.before).custody w.lock).line
 
--- meanwhile the lock is given to each thread once at most, and only to those that the thread found in the line: so to
--- fewer than there are threads
+-- fairness: meanwhile each thread gets the lock at most once, and only those that the thread found
+-- in the queue: so fewer than there are threads
 pub record IsBrief (s : Story) (w : Wait s) : Type 0 where
   pub once : IsDistinct nat_eq (grants_of w.lock w.since)
   pub ahead : (t : ℕ) → is_in_line (grants_of w.lock w.since) t ≡ true → is_in_line (line_found s w) t ≡ true
   pub few : length (grants_of w.lock w.since) < length s.image.entries
 
--- ---- how much there is to do
+-- ---- how much work there is
 
 -- the event is none of Claim, HandBack and Park
 abbrev pub is_work : Event → Bool
@@ -50,8 +50,8 @@ abbrev pub work_of : List Event → ℕ
 work_of [] = 0
 work_of (e ∷ es) = (if is_work e then 1 else 0) + work_of es
 
--- for each turn one Turn, one Commit, and for the section that may begin with it Enter, Ship, one of Take, Adopt and Grant,
--- Leave and Free: seven. Beside these each thread may enter one line, be shipped, and finish, and each lock be taken
+-- for each step one Turn and one Commit, and for the section that may begin with it Enter, Ship, one of Take, Adopt and
+-- Grant, Leave and Free: seven. Also each thread may enter one queue, be shipped and finish, and each lock be taken
 abbrev pub most_work : Story → ℕ
 most_work s = 7 * most_turns s.image s.fuel + 3 * length s.image.entries + length s.image.guards
 
@@ -59,21 +59,21 @@ pub record IsBounded (s : Story) : Type 0 where
   pub turns : length (turns_of s.events) ≤ most_turns s.image s.fuel
   pub work : work_of s.events ≤ most_work s
 
--- ---- that all can come to an end
+-- ---- all threads can end
 
--- each thread is Done and has ended, and each lock is Free with an empty line
+-- each thread is Done and has ended, and each lock is Free with an empty queue
 pub record IsOver (image : Shown) (c : Core) : Type 0 where
   pub threads : (t : ℕ) → t < length image.entries → (c.course t).place ≡ Done
   pub ended : (t : ℕ) → t < length image.entries → is_running (c.machine.threads t).status ≡ false
   pub locks : (k : ℕ) → k < length image.guards → (c.custody k).place ≡ place.Free
   pub lines : (k : ℕ) → k < length image.guards → (c.custody k).line ≡ []
 
--- there is a worker, and the image has no more locks than one may have: of more, a thread could take two in either order
+-- there is a worker, and no more locks than an image may have: with more, a thread could take two in either order
 pub record CanGo (s : Story) : Type 0 where
   pub worker : 0 < s.limits.workers
   pub guards : length s.image.guards ≤ MAX_GUARDS
 
--- the event gives a thread back that may go on
+-- the event gives back a thread that can go on
 abbrev pub is_back : Event → Bool
 is_back (HandBack w t) = true
 is_back (Park w t) = true
@@ -84,7 +84,7 @@ abbrev pub backs_of : List Event → ℕ
 backs_of [] = 0
 backs_of (e ∷ es) = (if is_back e then 1 else 0) + backs_of es
 
--- after the story something may come that gives no thread back
+-- after the story some event is enabled that gives no thread back
 pub record Step (s : Story) : Type 0 where
   pub event : Event
   pub enabled : is_enabled s.image s.limits (last_core s) event ≡ true
@@ -94,7 +94,7 @@ pub record Step (s : Story) : Type 0 where
 abbrev pub most_onward : Story → ℕ
 most_onward s = 2 * most_work s + length s.image.entries
 
--- the story can go on, with no thread given back, so that all comes to an end
+-- the story can be continued, with no thread given back, so that all threads end
 pub record CanEnd (s : Story) : Type 0 where
   pub events : List Event
   pub enabled : AreEnabled s.image s.limits (last_core s) events
@@ -126,7 +126,7 @@ worked_on _ = None
 abbrev pub is_worked_on : List Event → ℕ → Bool
 is_worked_on events t = list_any (λ e. is_number (worked_on e) t) events
 
--- between one HandBack or Park of a thread and another one something is done with it
+-- between two events HandBack or Park of a thread something is done with it
 abbrev pub NoneInVain : List Event → Type 0
 NoneInVain events =
     (thread : ℕ) (before between after : List Event) (back again : Event)
@@ -135,7 +135,7 @@ NoneInVain events =
     → given_back again ≡ Some thread
     → is_worked_on between thread ≡ true
 
--- between a Claim of a thread and a HandBack or Park of it that comes later the thread takes a turn
+-- between a Claim of a thread and a later HandBack or Park of it the thread takes a step
 abbrev pub AreClaimsUsed : List Event → Type 0
 AreClaimsUsed events =
     (worker thread : ℕ) (before between after : List Event) (back : Event)
@@ -143,6 +143,6 @@ AreClaimsUsed events =
     → given_back back ≡ Some thread
     → is_in_line (turns_of between) thread ≡ true
 
--- the work, as many threads given back and one more of each, and the Claims between them
+-- the work, as many threads given back and one more for each, and the Claims between them
 abbrev pub most_events : Story → ℕ
 most_events s = 4 * most_work s + 3 * length s.image.entries

@@ -1,4 +1,4 @@
--- The state of the pure machine: the ordinary machine, and how threads and locks stand between workers.
+-- The state of the abstract machine: the mutex machine, and where threads and locks are between workers.
 use Rattle.std.specs.Prelude.{ℕ, Bool, true, false, ◌==◌, if◌then◌else◌, [], Option, Some, None}
 use Rattle.tc_elf.specs.Shown.{Shown}
 use Rattle.tc_journal.specs.declared.block.End.{End}
@@ -13,13 +13,13 @@ pub use Rattle.tc_core.specs.declared.place.Course.{Course}
 pub use Rattle.tc_core.specs.declared.place.Custody.{Custody}
 pub use Rattle.tc_core.specs.declared.place.Release.{Release}
 
--- threads and locks as the ordinary machine has them; the course of each thread, and the custody of each lock
+-- threads and locks as in the mutex machine; the course of each thread, and the custody of each lock
 pub record Core : Type 0 where
   pub machine : State
   pub course : ℕ → Course
   pub custody : ℕ → Custody
 
--- the number of workers, and how many adopted sections of a lock may stand in a row
+-- the number of workers, and the greatest number of consecutive adopted sections of a lock
 pub record Limits : Type 0 where
   pub workers : ℕ
   pub batch : ℕ
@@ -69,7 +69,7 @@ abbrev pub is_loose : LockPlace → ℕ → Bool
 is_loose (Loose v) w = v == w
 is_loose _ w = false
 
--- the thread that a lock is with
+-- the thread that has a lock
 abbrev pub with_of : LockPlace → Option ℕ
 with_of (With t) = Some t
 with_of _ = None
@@ -86,6 +86,6 @@ with_course c t x = record c { course = λ k. if k == t then x else c.course k }
 abbrev pub with_custody : Core → ℕ → Custody → Core
 with_custody c lock x = record c { custody = λ k. if k == lock then x else c.custody k }
 
--- the thread comes to a place
+-- the thread at a new place
 abbrev pub with_place : Core → ℕ → ThreadPlace → Core
 with_place c t at = with_course c t (record (c.course t) { place = at })

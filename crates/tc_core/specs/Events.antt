@@ -1,4 +1,4 @@
--- The events: when each may come, and what it does.
+-- The events: when each is enabled, and what it does.
 use Rattle.std.specs.Option.{option_map}
 use Rattle.std.specs.Prelude.{ℕ, ◌+◌, Bool, true, false, not, ◌&&◌, ◌||◌, ◌==◌, nat_lt, if◌then◌else◌, [], ◌∷◌, ◌++◌, length, is_some, Option, Some, None}
 use Rattle.tc_isa.specs.Sets.{with_lock, without_lock}
@@ -33,35 +33,35 @@ is_lock image lock = nat_lt lock (length image.guards)
 abbrev pub has_thread : Shown → Limits → Core → ℕ → ℕ → Bool
 has_thread image limits c w t = is_worker limits w && (is_thread image t && is_at (c.course t).place w)
 
--- the worker has the lock loose
+-- the worker has released the lock and decides who is next
 abbrev pub has_lock : Shown → Limits → Core → ℕ → ℕ → Bool
 has_lock image limits c w lock = is_worker limits w && (is_lock image lock && is_loose (c.custody lock).place w)
 
 abbrev pub runs : Core → ℕ → Bool
 runs c t = is_running (c.machine.threads t).status
 
--- the thread has no turn yet in its present block
+-- the thread has no step yet in its present block
 abbrev pub is_between : Core → ℕ → Bool
 is_between c t = (c.course t).turns == 0
 
--- a turn that takes a lock is the block's first, and the lock was granted to the thread
+-- a step that takes a lock is the block's first, and the lock was granted to the thread
 abbrev pub may_take : Option ℕ → ℕ → Core → Bool
 may_take None t c = true
 may_take (Some lock) t c = is_between c t && is_granted (c.custody lock).place t
 
--- the thread is in the line of the lock that its next turn takes, and the lock was not granted to it: the first of a line
--- has been granted the lock where that is neither free nor left, and no other has
+-- the thread is in the queue of the lock that its next step takes, and the lock was not granted to
+-- it: the first of a queue has been granted the lock unless that is free or left, and no other has
 abbrev pub has_entered : Option ℕ → ℕ → Core → Bool
 has_entered None t c = false
 has_entered (Some lock) t c =
     is_in_line (c.custody lock).line t && (is_free_lock (c.custody lock).place || (c.custody lock).left || not (is_first (c.custody lock).line t))
 
--- the worker may give the thread back as one that goes on
+-- the worker may give the thread back as one that can go on
 abbrev pub may_go_back : Shown → Limits → Core → ℕ → ℕ → Bool
 may_go_back image limits c w t =
     has_thread image limits c w t && (runs c t && (is_between c t && not (has_entered (next_lock image (c.machine.threads t)) t c)))
 
--- the block that released a lock, as far as the batch rule looks at it
+-- the block that released a lock, as far as the batch rule reads it
 abbrev pub released_by : Release → Block
 released_by r = record { stamp = 0; thread = 0; turns = 0; held = r.held; kind = kind.On; worker = 0; pc = 0; end = r.end }
 
@@ -79,7 +79,7 @@ may_pass image limits c w t lock =
     has_lock image limits c w lock
     && (not (c.custody lock).left && (is_thread image t && (is_second (c.custody lock).line t && is_waiting (c.course t).place lock)))
 
--- whether an event may come
+-- whether an event is enabled
 unfoldable pub is_enabled : Shown → Limits → Core → Event → Bool
 is_enabled image limits c (Claim w t) = is_worker limits w && (is_thread image t && is_claimable (c.course t).place)
 is_enabled image limits c (Turn w t) =
@@ -103,7 +103,7 @@ is_enabled image limits c (Finish w t) = has_thread image limits c w t && (not (
 
 -- ---- effects
 
--- the locks of a block with the one that its turn takes
+-- the locks of a block with the one that its step takes
 abbrev pub held_with : ℕ → Option ℕ → ℕ
 held_with held None = held
 held_with held (Some lock) = with_lock held lock
@@ -116,7 +116,7 @@ held_past held (Some (Fault f)) = 0
 held_past held (Some Spent) = 0
 held_past held _ = held
 
--- how the block of t ends, if it ends with the turn that comes
+-- how the block of t ends, if it ends with the next step
 abbrev pub end_here : Shown → Core → ℕ → Option End
 end_here image c t =
     end_rule
@@ -124,7 +124,7 @@ end_here image c t =
     ((c.course t).turns + 1)
     (next_lock image ((after image c.machine t).threads t))
 
--- the thread after a turn that takes this lock, or none, and ends its block so, or goes on with it
+-- the thread after a step that takes this lock, or none, and ends its block so, or goes on with it
 abbrev pub course_on : Course → Option ℕ → Option End → Course
 course_on x taken end = record x { turns = x.turns + 1; held = held_with x.held taken; ended = end }
 
@@ -132,41 +132,41 @@ course_on x taken end = record x { turns = x.turns + 1; held = held_with x.held 
 abbrev pub course_past : Course → Course
 course_past x = record x { turns = 0; held = held_past x.held x.ended; ended = None; last = x.ended }
 
--- lock k after a turn of t that takes a lock, or none
+-- lock k after a step of t that takes a lock, or none
 abbrev pub custody_on : Option ℕ → ℕ → ℕ → Custody → Custody
 custody_on None t k x = x
 custody_on (Some lock) t k x = if k == lock then record x { place = With t } else x
 
--- what the block is to the locks that it released
+-- what the block says of the locks that it released
 abbrev pub release_of : Course → Option Release
 release_of x = option_map (λ end. record { held = x.held; end = end }) x.ended
 
--- a lock after a block of t at w: one that is with t and that t no longer holds is loose
+-- a lock after a block of t at w: one that t had and no longer holds is loose
 abbrev pub custody_past : ℕ → ℕ → Bool → Option Release → Custody → Custody
 custody_past w t held release x =
     if is_number (with_of x.place) t && not held then record x { place = Loose w; last = release } else x
 
--- t has entered the line
+-- t has entered the queue
 abbrev pub entered : Custody → ℕ → Custody
 entered x t = record x { line = x.line ++ t ∷ [] }
 
--- t, the first of the line, is granted the lock as Taken
+-- t, the first of the queue, is granted the lock as Taken
 abbrev pub taken_by : Custody → ℕ → Custody
 taken_by x t = record x { place = Granted t; run = 0 }
 
--- the first of the line has left it, and the next one is granted the lock
+-- the first of the queue has left it, and the next one is granted the lock
 abbrev pub passed_to : Custody → ℕ → ℕ → Custody
 passed_to x t run = record x { place = Granted t; line = rest_of x.line; run = run }
 
--- the last of the line has left it
+-- the last of the queue has left it
 abbrev pub left_by_all : Custody → Custody
 left_by_all x = record x { line = []; left = true }
 
--- the lock has gone home
+-- the lock is free again
 abbrev pub freed : Custody → Custody
 freed x = record x { place = place.Free; left = false }
 
--- the core after a turn of t
+-- the core after a step of t
 abbrev pub after_turn : Shown → Core → ℕ → Core
 after_turn image c t =
     let taken = next_lock image (c.machine.threads t) in

@@ -1,4 +1,4 @@
--- The line of a lock: threads in order of entry.
+-- The waiting queue (line) of a lock: threads in order of entry.
 use Rattle.std.specs.Prelude.{◌≡◌, ℕ, Bool, true, false, ◌==◌, List, [], ◌∷◌, ◌++◌}
 use Rattle.std.specs.List.{list_any}
 
@@ -9,7 +9,7 @@ abbrev pub is_first : List ℕ → ℕ → Bool
 is_first [] t = false
 is_first (u ∷ us) t = u == t
 
--- the line without its first
+-- the queue without its first
 abbrev pub rest_of : List ℕ → List ℕ
 rest_of [] = []
 rest_of (u ∷ us) = us
@@ -17,12 +17,12 @@ rest_of (u ∷ us) = us
 abbrev pub is_second : List ℕ → ℕ → Bool
 is_second line t = is_first (rest_of line) t
 
--- the line has one member
+-- the queue has one member
 abbrev pub is_single : List ℕ → Bool
 is_single [] = false
 is_single (u ∷ []) = true
 is_single (u ∷ v ∷ us) = false
 
--- the first numbers of a list
+-- a prefix of a list
 abbrev pub IsFrontOf : List ℕ → List ℕ → Type 0
 IsFrontOf xs ys = (rest : List ℕ) × (xs ++ rest ≡ ys)

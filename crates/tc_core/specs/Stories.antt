@@ -1,4 +1,4 @@
--- Lists of events, each of them enabled when it comes, and what they are looked at for.
+-- Lists of enabled events, and their projections.
 use Rattle.std.specs.Prelude.{◌≡◌, ℕ, ◌+◌, ◌≤◌, Bool, true, false, ◌==◌, if◌then◌else◌, List, [], ◌∷◌, ◌++◌}
 use Rattle.tc_elf.specs.Shown.{Shown}
 use Rattle.tc_turn.specs.Turn.{next_lock}
@@ -7,7 +7,7 @@ use Rattle.tc_core.specs.declared.event.Event.TheVariants.{Turn, Commit, Enter, 
 use Rattle.tc_core.specs.Core.{Core, Limits, first_core, is_number}
 use Rattle.tc_core.specs.Events.{is_enabled, effect}
 
--- each event is enabled when it comes
+-- each event is enabled at its turn in the list
 abbrev pub AreEnabled : Shown → Limits → Core → List Event → Type 0
 AreEnabled image limits c [] = Unit {0}
 AreEnabled image limits c (e ∷ es) = (is_enabled image limits c e ≡ true) × AreEnabled image limits (effect image c e) es
@@ -16,7 +16,7 @@ abbrev pub after_all : Shown → Core → List Event → Core
 after_all image c [] = c
 after_all image c (e ∷ es) = after_all image (effect image c e) es
 
--- what may happen in a guest from the start: a list of events, each enabled when it comes
+-- a trace: a list of enabled events of a guest from the start
 pub record Story : Type 0 where
   pub image : Shown
   pub limits : Limits
@@ -24,11 +24,11 @@ pub record Story : Type 0 where
   pub events : List Event
   pub enabled : AreEnabled image limits (first_core image fuel) events
 
--- the core at the end of it
+-- the state at the end of it
 abbrev pub last_core : Story → Core
 last_core s = after_all s.image (first_core s.image s.fuel) s.events
 
--- ---- turns and blocks
+-- ---- steps and blocks
 
 abbrev pub turn_of : Event → List ℕ
 turn_of (Turn w t) = t ∷ []
@@ -39,7 +39,7 @@ abbrev pub turns_of : List Event → List ℕ
 turns_of [] = []
 turns_of (e ∷ es) = turn_of e ++ turns_of es
 
--- how many turns each thread has in its present block, by the events
+-- how many steps each thread has in its present block, by the events
 abbrev pub counts_on : (ℕ → ℕ) → Event → ℕ → ℕ
 counts_on counts (Turn w t) = λ k. if k == t then counts t + 1 else counts k
 counts_on counts (Commit w t) = λ k. if k == t then 0 else counts k
@@ -57,9 +57,9 @@ blocks_from counts (e ∷ es) = block_of counts e ++ blocks_from (counts_on coun
 abbrev pub blocks_of : List Event → List (ℕ × ℕ)
 blocks_of events = blocks_from (λ t. 0) events
 
--- ---- the line of a lock
+-- ---- the waiting queue of a lock
 
--- the thread of a LOCK turn of the lock
+-- the thread of a LOCK step of the lock
 abbrev pub lock_by : Shown → ℕ → Core → Event → List ℕ
 lock_by image lock c (Turn w t) = if is_number (next_lock image (c.machine.threads t)) lock then t ∷ [] else []
 lock_by image lock c _ = []
@@ -68,7 +68,7 @@ abbrev pub locks_by : Shown → ℕ → Core → List Event → List ℕ
 locks_by image lock c [] = []
 locks_by image lock c (e ∷ es) = lock_by image lock c e ++ locks_by image lock (effect image c e) es
 
--- the threads of the LOCK turns of the lock
+-- the threads of the LOCK steps of the lock
 abbrev pub locks_of : ℕ → Story → List ℕ
 locks_of lock s = locks_by s.image lock (first_core s.image s.fuel) s.events
 

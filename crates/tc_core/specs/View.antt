@@ -1,4 +1,4 @@
--- The program's core as the pure machine.
+-- The program's core as the abstract machine.
 use Rattle.std.specs.Prelude.{◌≡◌, ℕ, ◌<◌, ◌≤◌, Bool, true, false, List, [], ◌∷◌, length, slice_get, unwrap_or, nat_eq, Some, None, IfSome, IsTrue}
 use Rattle.std.specs.List.{IsDistinct}
 use Rattle.tc_isa.specs.declared.limits.TheConstants.{MAX_BATCH, MAX_FUEL, MAX_TURNS, MAX_WORKERS}
@@ -25,7 +25,7 @@ course_at courses t = unwrap_or (slice_get courses t) first_course
 abbrev pub custody_at : List Custody → ℕ → Custody
 custody_at custodies k = unwrap_or (slice_get custodies k) first_custody
 
--- so many items, each as it is at the start, as is what stands for those past their end
+-- so many items, each as at the start, like those past their end
 pub record AreAtStart {A : Type 0} (first : A) (count : ℕ) (items : List A) : Type 0 where
   pub each : (n : ℕ) → unwrap_or (slice_get items n) first ≡ first
   pub long : length items ≡ count
@@ -41,12 +41,12 @@ abbrev pub AreBelow : ℕ → List ℕ → Type 0
 AreBelow n [] = Unit {0}
 AreBelow n (u ∷ us) = (u < n) × AreBelow n us
 
--- a line of threads below n, each of them once
+-- a queue of threads below n, each of them once
 pub record IsLine (n : ℕ) (line : List ℕ) : Type 0 where
   pub below : AreBelow n line
   pub once : IsDistinct nat_eq line
 
--- a block goes on with fewer turns than a block may have, and its end names a lock that there can be
+-- a block that goes on has fewer steps than a block may have, and its end names a lock that can exist
 pub record IsCourse (x : Course) : Type 0 where
   pub turns : x.ended ≡ None → x.turns < MAX_TURNS
   pub end : IfSome x.ended IsEnd
@@ -69,14 +69,14 @@ pub record KnowsLock (image : Shown) (v : CoreView) (k : ℕ) : Type 0 where
   pub parts : HasParts image v
   pub lock : k < length image.guards
 
--- thread t, which is not in the line of the lock, may enter it
+-- thread t, which is not in the queue of the lock, may enter it
 pub record MayEnter (image : Shown) (v : CoreView) (t lock : ℕ) : Type 0 where
   pub parts : HasParts image v
   pub thread : t < length image.entries
   pub known : lock < length image.guards
   pub out : is_in_line (custody_at v.custodies lock).line t ≡ false
 
--- a lock's owner is the thread that holds it, and a lock that is held is with its thread
+-- a lock's owner is the thread that holds it, and a thread that holds a lock has it
 pub record IsSoundCore (c : Core) : Type 0 where
   pub owners : IsHeldByOwner c.machine
   pub with : (t k : ℕ) → (c.machine.threads t).held k ≡ true → with_of (c.custody k).place ≡ Some t
@@ -98,17 +98,17 @@ pub record IsFirst (image : Shown) (fuel workers batch : ℕ) (v : CoreView) : T
   pub limits : limits_of v ≡ record { workers = workers; batch = batch }
   pub suits : IsCoreOf image v
 
--- the core is one of the image's, and the event may come
+-- the core is one of the image's, and the event is enabled
 pub record MayCome (image : Shown) (v : CoreView) (e : Event) : Type 0 where
   pub core : IsCoreOf image v
   pub enabled : is_enabled image (limits_of v) (core_of v) e ≡ true
 
--- the answer is this one, and where it is true, so much is known
+-- the answer is this one, and if it is true, this fact holds
 pub record IsAnswer (answer wanted : Bool) (fact : Type 0) : Type 0 where
   pub value : answer ≡ wanted
   pub known : IsTrue answer → fact
 
--- the core came to c: it has the limits that it had, and the image's threads and locks
+-- the core is now c: it has the same limits, and the image's threads and locks
 pub record Became (image : Shown) (old new : CoreView) (c : Core) : Type 0 where
   pub core : core_of new ≡ c
   pub limits : limits_of new ≡ limits_of old

@@ -1,4 +1,4 @@
-//! The courses of all threads.
+//! The courses (places and progress) of all threads.
 
 ghost use Rattle.std.specs.Prelude.{◌≡◌, ◌<◌, length, slice_set, IfOk};
 ghost use Rattle.tc_core.specs.Core.{first_course};
@@ -45,7 +45,7 @@ impl Courses {
         }
     }
 
-    /// Another course of a thread.
+    /// Replaces the course of a thread.
     pub fn put(&mut self, thread: u32, course: Course)
         requires { thread < length self.old }
         ensures { self.new ≡ slice_set self.old thread course }

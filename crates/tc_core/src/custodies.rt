@@ -1,4 +1,4 @@
-//! The custodies of all locks.
+//! The custodies (places and waiting queues) of all locks.
 
 ghost use Rattle.std.specs.Prelude.{◌≡◌, ℕ, ◌<◌, ◌++◌, ◌∷◌, [], true, false, length, slice_get, slice_set, IfOk, IfSome};
 ghost use Rattle.std.specs.Option.{option_map};
@@ -51,14 +51,14 @@ impl Custodies {
         &self.custodies[lock as usize]
     }
 
-    /// The custody of a lock, where there is one.
+    /// The custody of a lock, if there is such a lock.
     pub fn find(&self, lock: u32) -> Option<&Custody>
         ensures { option_map (λ x. x.now) result ≡ slice_get self.now lock }
     {
         self.custodies.get(lock as usize)
     }
 
-    /// The thread enters the line of the lock.
+    /// The thread enters the waiting queue of the lock.
     #[tactic(auto, using(crate::proofs::Places::custody_here))]
     pub fn enter(&mut self, lock: u32, thread: u32)
         requires lock { lock < length self.old }
@@ -68,7 +68,7 @@ impl Custodies {
         self.custodies[lock as usize].line.enter(thread);
     }
 
-    /// The lock is granted to the first of its line, as Taken.
+    /// The lock is granted to the first of its queue, as Taken.
     #[tactic(auto, using(crate::proofs::Places::custody_here))]
     pub fn grant(&mut self, lock: u32, thread: u32)
         requires { lock < length self.old }
@@ -79,7 +79,7 @@ impl Custodies {
         custody.run = 0;
     }
 
-    /// The first of the line leaves it, and the lock is granted to the next.
+    /// The first of the queue leaves it, and the lock is granted to the next.
     #[tactic(auto, using(crate::proofs::Places::custody_here))]
     pub fn pass(&mut self, lock: u32, thread: u32, run: u32)
         requires { lock < length self.old }
@@ -92,7 +92,7 @@ impl Custodies {
         custody.run = run;
     }
 
-    /// The last of the line leaves it.
+    /// The last of the queue leaves it.
     #[tactic(auto, using(crate::proofs::Places::custody_here))]
     pub fn leave(&mut self, lock: u32)
         requires { lock < length self.old }
@@ -103,7 +103,7 @@ impl Custodies {
         custody.left = true;
     }
 
-    /// The lock goes home.
+    /// The lock becomes free.
     #[tactic(auto, using(crate::proofs::Places::custody_here))]
     pub fn free(&mut self, lock: u32)
         requires { lock < length self.old }
@@ -126,7 +126,7 @@ impl Custodies {
         }
     }
 
-    /// Every lock after a block of the thread at the worker, with what the thread holds then.
+    /// Every lock after a block of the thread at the worker; `held` is what the thread holds then.
     pub fn release(
         &mut self,
         image: &Image,

@@ -1,10 +1,10 @@
-//! Guests' files for the tests, as words.
+//! Guest files for the tests, as words.
 
 /// Two threads, both at 0x00100000, and a guard of 4 bytes at 0x00020000. A thread adds 1 to the
 /// guard's word inside one section and exits:
 ///
 /// ```text
-/// lui x5,0x20   addi x10,x0,0   addi x17,x0,1   ecall     lock 0, its 4th turn
+/// lui x5,0x20   addi x10,x0,0   addi x17,x0,1   ecall     lock 0, its 4th step
 /// lw x7,0(x5)   addi x7,x7,1    sw x7,0(x5)
 /// addi x10,x0,0 addi x17,x0,2   ecall                     unlock 0, its 10th turn
 /// addi x17,x0,93                ecall                     exit, its 12th turn

@@ -1,21 +1,21 @@
-//! The pure machine of delegation: workers that hand threads and locks to one another, and the
-//! theorem that this cannot be seen in what the threads do.
+//! The abstract machine of delegation: workers that hand threads and locks to one another. The main
+//! theorem: delegation refines ordinary mutexes.
 //!
-//! One event is one step of one worker. `specs/Events.antt` is the table: a row for each event,
-//! one equation for when it is enabled and one for its effect. Nothing is said of who takes which
-//! step and when, so every order of the workers' steps is a list of events. The layers above are
-//! promised what `theorem::theorem` states: with workers and delegation forgotten, each list of
-//! enabled events is a run of ordinary mutexes, turn by turn and block by block; each lock is given
-//! in the order of entry; no more sections in a row are adopted than the batch limit says; and the
-//! held set of a block is the locks that its thread has.
+//! One event is one step of one worker. `specs/Events.antt` is the event table: for each event,
+//! one equation says when it is enabled and one says what it does. No scheduler is fixed, so every
+//! interleaving of the workers is a list of events. `theorem::theorem` promises the layers above:
+//! Refinement: erasing workers and delegation from a list of enabled events gives a run of
+//! ordinary mutexes, step by step and block by block. Locks are given in the order of entry. No
+//! more consecutive sections are adopted than the batch limit says. A block's held set is its
+//! thread's.
 //!
 //! - `event`: the events. `place`: where threads and locks are. `specs/Core.antt`: the state.
-//! - `theorem`: the theorem. `specs/Stories.antt` has the lists of events, `specs/Theorem.antt`
-//!   what they come to.
-//! - `alive`: that a thread waits for few sections, that there is only so much to do, and that every
-//!   list of events can go on to the end of all; `specs/Alive.antt` has the words.
-//! - `machine`: the same as a program, `Core`, whose `step` answers whether the event was enabled;
-//!   `line`, `courses` and `custodies` are its parts, and `specs/View.antt` says what it stands for.
+//! - `theorem`: the theorem. `specs/Stories.antt` defines the lists of events, `specs/Theorem.antt`
+//!   what they refine.
+//! - `alive`: progress: a thread waits for few sections, the work is bounded, and every list of
+//!   events can be continued until all threads have ended; `specs/Alive.antt` has the definitions.
+//! - `machine`: an executable form, `Core`, whose `step` answers whether the event was enabled. `line`,
+//!   `courses` and `custodies` are its parts; `specs/View.antt` says which abstract state it represents.
 #![tactic(auto)]
 
 pub mod alive;

@@ -1,4 +1,4 @@
-//! The line of a lock.
+//! The waiting queue (line) of a lock.
 
 ghost use Rattle.std.specs.Prelude.{◌≡◌, ◌<◌, [], ◌∷◌, ◌++◌, length, IfOk};
 ghost use Rattle.tc_elf.specs.declared.limits.TheConstants.{MAX_THREADS};
@@ -8,7 +8,7 @@ use std::alloc::{AllocError, Global};
 use std::marker::Model;
 use tc_elf::limits::MAX_THREADS;
 
-/// The threads that entered the line of a lock, in order of entry. It has room for each thread once.
+/// The threads in the waiting queue of a lock, in order of entry. It has room for each thread once.
 #[derive(Drop)]
 pub struct Line {
     threads: Vec<u32>,
@@ -27,7 +27,7 @@ impl Model for Line {
 }
 
 impl Line {
-    /// A line of nobody.
+    /// An empty queue.
     pub(crate) fn new(alloc: Global) -> Result<Line, AllocError>
         ensures { IfOk result (λ a. a ≡ []) }
     {

@@ -1,4 +1,4 @@
-//! The pure machine as a program.
+//! The abstract machine in executable form.
 
 ghost use Rattle.std.specs.Prelude.{◌≡◌, ◌<◌, ◌&&◌, IfOk, IfSome, length, slice_get};
 ghost use Rattle.std.specs.Option.{option_map};
@@ -20,7 +20,7 @@ use tc_journal::batch::may_adopt;
 use tc_journal::rule::end_of;
 use tc_mutex_spec::slow::{Slow, SlowStatus};
 
-/// Threads and locks, where they are, and what each of them waits for. A contract sees it as
+/// Threads and locks, where they are, and what each of them waits for. Contracts see it as
 /// `core_of` and `limits_of` show it.
 #[derive(Drop)]
 pub struct Core {
@@ -40,7 +40,7 @@ impl Model for Core {
 }
 
 impl Core {
-    /// All threads Ready, all locks Free, all lines empty. It takes memory for all that is to come.
+    /// All threads Ready, all locks Free, all queues empty. It allocates all the memory that is needed.
     pub fn new(
         alloc: Global,
         image: &Image,
@@ -60,8 +60,8 @@ impl Core {
         })
     }
 
-    /// One event: true where it is enabled, and then it has its effect. Nothing changes where it is
-    /// not. It takes no memory.
+    /// One event: true if it is enabled, and then it has its effect. Otherwise nothing changes. It
+    /// allocates nothing.
     pub fn step(&mut self, image: &Image, event: Event) -> bool
         requires { IsCoreOf image.now self.old }
         ensures stepped { Stepped image.now self.old event result self.new }
@@ -74,21 +74,21 @@ impl Core {
         enabled
     }
 
-    /// Where a thread is, and how far it got. A number of no thread has what each has at the start.
+    /// Where a thread is, and how far it got. A number without a thread has what each has at the start.
     pub fn course(&self, thread: u32) -> Course
         ensures { result ≡ (core_of self.now).course thread }
     {
         self.courses.at(thread)
     }
 
-    /// Where a lock is, and who is to get it; None exactly where there is no such lock.
+    /// Where a lock is, and who gets it next; None if and only if there is no such lock.
     pub(crate) fn custody(&self, lock: u32) -> Option<&Custody>
         ensures { option_map (λ x. x.now) result ≡ slice_get self.now.custodies lock }
     {
         self.custodies.find(lock)
     }
 
-    /// The address of a thread's next instruction; 0 where there is no such thread.
+    /// The address of a thread's next instruction; 0 if there is no such thread.
     pub fn pc(&self, image: &Image, thread: u32) -> u32
         requires { IsCoreOf image.now self.now }
         ensures { result ≡ ((core_of self.now).machine.threads thread).regs.pc }
@@ -100,7 +100,7 @@ impl Core {
         }
     }
 
-    // ---- whether an event may come
+    // ---- whether an event is enabled
 
     #[tactic(auto, unfolding(crate::specs::Events::is_enabled))]
     fn is_enabled(&self, image: &Image, event: Event) -> bool
@@ -260,8 +260,8 @@ impl Core {
             && !self.custodies.at(lock).line.has(thread)
     }
 
-    /// Whether the thread is between two blocks, and goes on with a LOCK of the lock. One that has
-    /// ended may stand at a LOCK too.
+    /// Whether the thread is between two blocks, and its next step is a LOCK of the lock. A thread
+    /// that has ended may be at a LOCK too.
     fn wants(&self, image: &Image, thread: u32, lock: u32) -> bool
         requires parts { HasParts image.now self.now }
         requires thread { thread < length image.now.entries }
@@ -393,7 +393,7 @@ impl Core {
         }
     }
 
-    /// The thread comes to a place.
+    /// Moves the thread to a place.
     fn place(&mut self, image: &Image, thread: u32, place: ThreadPlace)
         requires { KnowsThread image.now self.old thread }
         ensures { Became image.now self.old self.new
@@ -403,7 +403,7 @@ impl Core {
         self.courses.put(thread, course);
     }
 
-    /// One turn of the thread.
+    /// One step of the thread.
     fn turn(&mut self, image: &Image, worker: u32, thread: u32)
         requires { MayCome image.now self.old (event.Turn worker thread) }
         ensures { Became image.now self.old self.new
@@ -433,7 +433,7 @@ impl Core {
         self.courses.put(thread, course.after_block());
     }
 
-    /// The thread enters the line of the lock.
+    /// The thread enters the waiting queue of the lock.
     fn enter(&mut self, image: &Image, thread: u32, lock: u32)
         requires { MayEnter image.now self.old thread lock }
         ensures { Became image.now self.old self.new
@@ -444,7 +444,7 @@ impl Core {
         self.custodies.enter(lock, thread);
     }
 
-    /// The lock is passed on to the second of its line.
+    /// The lock is passed on to the second of its queue.
     fn pass(&mut self, image: &Image, thread: u32, lock: u32, run: u32)
         requires { KnowsLock image.now self.old lock }
         ensures { Became image.now self.old self.new

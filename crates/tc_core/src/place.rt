@@ -19,7 +19,7 @@ use tc_journal::block::{Block, End, Kind};
 pub enum ThreadPlace {
     /// Any worker may claim it.
     Ready,
-    /// It waits in the line of this lock.
+    /// It waits in the queue of this lock.
     Waiting(u32),
     /// It sleeps, and any worker may claim it.
     Parked,
@@ -63,11 +63,11 @@ impl ThreadPlace {
 pub enum LockPlace {
     /// Nobody has it.
     Free,
-    /// It is with this thread, from the thread's LOCK to the commit of the block that releases it.
+    /// This thread has it, from its LOCK to the commit of the block that releases it.
     With(u32),
     /// It was granted to this thread, which has not taken it yet.
     Granted(u32),
-    /// It was released, and this worker is to say who is next.
+    /// It was released, and this worker decides who is next.
     Loose(u32),
 }
 
@@ -99,7 +99,7 @@ impl LockPlace {
         }
     }
 
-    /// Whether it is with the thread.
+    /// Whether the thread has it.
     pub(crate) fn is_with(self, thread: u32) -> bool
         ensures { result ≡ core.is_number (core.with_of self) thread }
     {
@@ -114,13 +114,13 @@ impl LockPlace {
 #[derive(Clone, Copy, Debug, PartialEq, Eq)]
 pub struct Course {
     pub place: ThreadPlace,
-    /// The turns of its present block.
+    /// The steps of its present block.
     pub turns: u32,
-    /// The locks of its present block; before its first turn, those that the thread holds.
+    /// The locks of its present block; before its first step, those that the thread holds.
     pub held: Held,
-    /// How its present block ended, where it has.
+    /// How its present block ended, if it has.
     pub ended: Option<End>,
-    /// How its last committed block ended, where there is one.
+    /// How its last committed block ended, if there is one.
     pub last: Option<End>,
 }
 
@@ -145,7 +145,7 @@ impl Course {
         Course { place, ..*self }
     }
 
-    /// The thread after a turn that took this lock, or none, and ended its block so, or went on.
+    /// The thread after a step that took this lock, or none, and ended its block so, or went on.
     pub(crate) fn after_turn(&self, taken: Option<u32>, ended: Option<End>) -> Course
         requires turns { self.now.turns < MAX_TURNS }
         requires taken { IfSome taken (λ lock. lock < PLACES) }
@@ -189,7 +189,7 @@ impl Course {
         matches!(self.last, Some(End::Slept))
     }
 
-    /// What its block is to the locks that it released.
+    /// What its block says of the locks that it released.
     pub(crate) fn release(&self) -> Option<Release>
         ensures { result ≡ events.release_of self.now }
     {
@@ -206,7 +206,7 @@ pub struct Release {
 }
 
 impl Release {
-    /// The block, as far as the batch rule looks at it.
+    /// The block, as far as the batch rule reads it.
     pub(crate) fn block(self) -> Block
         ensures { result ≡ events.released_by self }
     {
@@ -223,15 +223,15 @@ impl Release {
     }
 }
 
-/// Where a lock is, and who is to get it.
+/// Where a lock is, and who gets it next.
 #[derive(Drop)]
 pub struct Custody {
     pub place: LockPlace,
     /// The threads that entered, in order: the first has the lock or is about to get it.
     pub line: Line,
-    /// Whether the last of the line has left it.
+    /// Whether the last of the queue has left it.
     pub left: bool,
-    /// How many sections in a row were adopted.
+    /// The number of consecutive adopted sections.
     pub run: u32,
     pub last: Option<Release>,
 }
@@ -250,7 +250,7 @@ impl Custody {
         })
     }
 
-    /// The lock after a block of the thread at the worker, which still holds it or released it so.
+    /// The lock after a block of the thread at the worker, which still holds it or released it like this.
     pub(crate) fn release(
         &mut self,
         worker: u32,

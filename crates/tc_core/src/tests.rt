@@ -103,7 +103,7 @@ fn finish(worker: u32, thread: u32) -> Deed {
     once(Event::Finish { worker, thread })
 }
 
-/// A deed, and where threads and locks are afterwards. What a guest does not have is Ready, or Free.
+/// A deed, and the places of threads and locks afterwards. Numbers that the guest lacks are Ready, or Free.
 #[derive(Clone, Copy)]
 struct Scene {
     deed: Deed,
@@ -336,7 +336,7 @@ fn pass(adopted: bool, worker: u32, thread: u32, lock: u32) -> Deed {
     }
 }
 
-/// Up to where thread 0 has entered the line of lock 1: 21 rows.
+/// Up to the event in which thread 0 enters the queue of lock 1: 21 rows.
 fn to_the_entry() -> [Try; 21] {
     [
         // No such worker, no such thread; at no worker.
@@ -367,7 +367,7 @@ fn to_the_entry() -> [Try; 21] {
     ]
 }
 
-/// Up to where thread 0 has released lock 1, while threads 1 and 2 stand in its line: 22 rows.
+/// Up to the event in which thread 0 releases lock 1, while threads 1 and 2 are in its queue: 22 rows.
 fn to_the_line() -> [Try; 22] {
     [
         // In the line, and the lock is free; first in it; at another worker.
@@ -384,7 +384,7 @@ fn to_the_line() -> [Try; 22] {
         (take(1, 1, 1), false),
         (ship(0, 1, 1), false),
         (take(0, 0, 1), true),
-        // Not free; in the line of a lock that was granted to another.
+        // Not free; in the queue of a lock that was granted to another.
         (take(0, 0, 1), false),
         (hand_back(1, 1), false),
         (turns(0, 0, 4), true),
@@ -436,7 +436,7 @@ fn to_the_end(adopted: bool) -> [Try; 27] {
         (turns(1, 1, 4), true),
         (commit(1, 1), true),
         (enter(1, 1, 0), true),
-        // The first in the line of a lock that was left and is not home: it was not granted.
+        // The first in the queue of a lock that was left and is not free: it was not granted.
         (hand_back(1, 1), false),
         // Left already, and the line has one again; at another worker.
         (leave(0, 0), false),
@@ -503,7 +503,7 @@ fn a_thread_that_ended_at_a_lock_enters_no_line(rt: HostRuntime) -> Result<(), F
         // LOCK 1 and three turns more: the last is a fault.
         (turns(0, 2, 4), true),
         (commit(0, 2), true),
-        // It holds nothing now, and its pc stands at a LOCK of lock 0.
+        // It holds nothing now, and its pc is at a LOCK of lock 0.
         (turns(0, 2, 1), false),
         (enter(0, 2, 0), false),
         (hand_back(0, 2), false),

@@ -37,7 +37,7 @@ e_phnum b = half_at b 44
 
 -- ---- program headers
 
--- the types of those that something looks at
+-- the types of those that are used
 abbrev pub pt_load : ℕ
 pt_load = 1
 

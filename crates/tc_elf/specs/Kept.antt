@@ -1,4 +1,4 @@
--- What is true of every image.
+-- The invariant of every image.
 use Rattle.std.specs.Prelude.{◌≡◌, ◌+◌, ◌%◌, ◌^◌, ◌≤◌, true, false, length, All, AllPairs}
 use Rattle.std.specs.List.{list_any}
 use Rattle.tc_elf.specs.declared.limits.TheConstants.{MAX_HEADERS, MAX_THREADS, MAX_GUARDS, MIN_GUARD_LENGTH, MAX_GUARD_LENGTH}

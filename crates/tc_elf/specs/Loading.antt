@@ -1,4 +1,4 @@
--- Which files are loaded, and what they stand for.
+-- Which files are loaded, and what they describe.
 use Rattle.std.specs.Prelude.{◌≡◌, ℕ, List, Option, None, Some, Result, Ok, Err, unwrap_or}
 use Rattle.std.specs.Option.{option_or}
 use Rattle.tc_elf.specs.declared.refusal.Refusal.{Refusal}
@@ -8,7 +8,7 @@ use Rattle.tc_elf.specs.Notes.{Layout, layout, header_layout}
 use Rattle.tc_elf.specs.Refusals.{header_refusal, segment_refusal, layout_refusal}
 use Rattle.tc_elf.specs.Shown.{Shown, Range}
 
--- why a file is refused, by the first reason; nothing where it is loaded
+-- the first reason why a file is refused; None if it is loaded
 unfoldable pub refusal : List ℕ → Option Refusal
 refusal b =
     option_or (header_refusal b)
@@ -17,15 +17,15 @@ refusal b =
 abbrev pub image_of : List Range → Layout → Shown
 image_of rs l = record { ranges = rs; entries = l.entries; guards = l.guards }
 
--- the image that a file stands for; every file that is loaded has a layout
+-- the image that a file describes; every file that is loaded has a layout
 unfoldable pub shown_of : List ℕ → Shown
 shown_of b = image_of (ranges b) (unwrap_or (layout b) (header_layout b))
 
--- the file is of the subset that is loaded, and stands for the image
+-- the file is of the subset that is loaded, and describes the image
 abbrev pub subset : List ℕ → Shown → Type 0
 subset b image = (refusal b ≡ None) × (image ≡ shown_of b)
 
--- what `load` answers; want of memory may come at any file
+-- what `load` returns; memory may run out for any file
 abbrev pub Loads : List ℕ → Result Shown Refusal → Type 0
 Loads b (Ok image) = subset b image
 Loads b (Err refused.OutOfMemory) = Unit {0}

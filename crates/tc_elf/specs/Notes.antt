@@ -8,13 +8,13 @@ use Rattle.tc_elf.specs.declared.segment.Segment.{Segment}
 use Rattle.tc_elf.specs.Elf.{word_at, e_entry, pt_note, part, segments}
 use Rattle.tc_elf.specs.Shown.{Entry, Guard}
 
--- a note: its type, its name and its descriptor. Three words stand before the name: the lengths of both, and the type
+-- a note: its type, its name and its descriptor. Three words precede the name: the lengths of both, and the type
 pub record Note : Type 0 where
   pub kind : ℕ
   pub name : List ℕ
   pub descriptor : List ℕ
 
--- up to a multiple of 4
+-- rounded up to a multiple of 4
 abbrev pub padded : ℕ → ℕ
 padded n = (n + 3) / 4 * 4
 
@@ -36,8 +36,8 @@ first_note b = record {
   descriptor = take (word_at b 4) (drop (descriptor_at b) b);
 }
 
--- At most so many notes, one after another; fewer bytes than a note's header at the end are passed over. There are
--- none where a name with its padding, or a descriptor, runs past the end.
+-- At most so many notes, one after another; a remainder shorter than a note's header is skipped.
+-- None if a name with its padding, or a descriptor, runs past the end.
 unfoldable pub notes_in : ℕ → List ℕ → Option (List Note)
 notes_in zero b = Some []
 notes_in (suc n) b =
@@ -70,17 +70,17 @@ segment_descriptors b s =
     else if runs_past b s then None
     else descriptors_of (part b s)
 
--- the elements of both lists, where there are both
+-- the elements of both lists, if there are both
 abbrev pub both : Option (List (List ℕ)) → Option (List (List ℕ)) → Option (List (List ℕ))
 both None ys = None
 both (Some xs) ys = option_map (λ more. xs ++ more) ys
 
--- the descriptors of all notes on threads and guards; nothing where a segment or a note is cut
+-- the descriptors of all notes on threads and guards; None if a segment or a note is cut off
 unfoldable pub descriptors_over : List ℕ → List Segment → Option (List (List ℕ))
 descriptors_over b [] = Some []
 descriptors_over b (s ∷ ss) = both (segment_descriptors b s) (descriptors_over b ss)
 
--- the one descriptor, or none; nothing where there are two
+-- the one descriptor, or none; None if there are two
 abbrev pub single : Option (List (List ℕ)) → Option (Option (List ℕ))
 single None = None
 single (Some []) = Some None
@@ -139,7 +139,7 @@ described_layout d = record {
 abbrev pub header_layout : List ℕ → Layout
 header_layout b = record { entries = record { address = e_entry b; argument = 0 } ∷ []; guards = [] }
 
--- nothing where the notes are bad
+-- None if the notes are bad
 abbrev pub layout_by : List ℕ → Option (Option (List ℕ)) → Option Layout
 layout_by b None = None
 layout_by b (Some None) = Some (header_layout b)
@@ -148,7 +148,7 @@ layout_by b (Some (Some d)) = if is_bad_descriptor d then None else Some (descri
 abbrev pub layout_over : List ℕ → List Segment → Option Layout
 layout_over b ss = layout_by b (single (descriptors_over b ss))
 
--- a note is cut, or those on threads and guards are not as they must be
+-- a note is cut off, or those on threads and guards are not in order
 abbrev pub HasBadNote : List ℕ → List Segment → Type 0
 HasBadNote b ss = layout_over b ss ≡ None
 

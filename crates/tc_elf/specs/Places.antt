@@ -7,11 +7,11 @@ use Rattle.tc_elf.specs.Shown.{Shown, Range, Guard}
 use Rattle.tc_elf.specs.declared.image.Region.{Region}
 use Rattle.tc_elf.specs.declared.image.Region.TheVariants as region
 
--- all bytes of an access lie in what begins at start and has this length
+-- all bytes of an access lie in the addresses of this start and length
 abbrev pub lies_in : ℕ → ℕ → ℕ → ℕ → Bool
 lies_in addr width start length = nat_le start addr && nat_le (addr + width) (start + length)
 
--- two lists of addresses, by start and length, share an address
+-- two ranges of addresses, by start and length, overlap
 abbrev pub meets : ℕ → ℕ → ℕ → ℕ → Bool
 meets a n b m = nat_lt a (b + m) && nat_lt b (a + n)
 
@@ -61,7 +61,7 @@ unfoldable pub region_of : Shown → ℕ → ℕ → Region
 region_of image addr width =
     option_map_or region.Guard (position (in_guard addr width) image.guards) (unguarded_region image addr width)
 
--- the place of an address in a thread's own memory; Nothing where that doesn't have it
+-- the place of an address in a thread's own memory; Nothing if that doesn't have it
 abbrev pub own_region : Shown → ℕ → Region
 own_region image at =
     if list_any (touches at 1) image.guards then region.Nothing
@@ -73,13 +73,13 @@ own_region image at =
 abbrev pub range_word : Range → ℕ → ℕ
 range_word r addr = little_number 4 (drop (addr - r.start) r.bytes)
 
--- the word of an instruction, where its four bytes lie in one executable range
+-- the word of an instruction, if its four bytes lie in one executable range
 unfoldable pub fetched : Shown → ℕ → Option ℕ
 fetched image pc = option_map (λ r. range_word r pc) (find (in_code pc 4) image.ranges)
 
 abbrev pub range_byte : Range → ℕ → ℕ
 range_byte r addr = slice_index r.bytes (addr - r.start)
 
--- the byte that a range has at the start; there is none exactly where no range has the address
+-- the initial byte of a range; None if and only if no range has the address
 unfoldable pub byte_of : Shown → ℕ → Option ℕ
 byte_of image addr = option_map (λ r. range_byte r addr) (find (in_range addr 1) image.ranges)

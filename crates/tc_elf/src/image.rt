@@ -40,7 +40,7 @@ impl Model for Range {
     ghost invariant = { λ r. vec_len r.bytes ≡ r.length };
 }
 
-/// Where a thread begins, and what it is given.
+/// The first instruction of a thread, and its argument.
 #[derive(Clone, Copy, Drop)]
 pub(crate) struct Entry {
     pub(crate) address: u32,
@@ -74,7 +74,7 @@ impl Model for Guard {
     ghost inverse = { λ g. record { start = g.start; length = g.length } };
 }
 
-/// What a guest's file stands for.
+/// What a guest's file describes: memory, threads and guards.
 #[derive(Drop)]
 pub struct Image {
     pub(crate) ranges: Vec<Range>,
@@ -117,14 +117,14 @@ pub enum Region {
     Nothing,
 }
 
-/// Whether all bytes of an access lie in what begins at `start` and has this length.
+/// Whether all bytes of an access lie in the addresses of this start and length.
 pub(crate) fn lies_in(addr: u32, width: u32, start: u32, length: u32) -> bool
     ensures { result ≡ lies_in addr width start length }
 {
     addr >= start && addr as u64 + width as u64 <= start as u64 + length as u64
 }
 
-/// Whether two lists of addresses, each by its start and its length, share an address.
+/// Whether two ranges of addresses, each by its start and its length, overlap.
 pub(crate) fn meets(a: u32, n: u32, b: u32, m: u32) -> bool
     ensures { result ≡ meets a n b m }
 {
@@ -181,7 +181,7 @@ fn range_with(ranges: &[Range], addr: u32) -> Option<&Range>
     ranges.iter().find(|r| r.has(addr, 1))
 }
 
-/// The first range that has an address of those from one on.
+/// The first range that overlaps the addresses of this start and length.
 fn range_meeting(ranges: &[Range], start: u32, length: u32) -> Option<&Range>
     ensures first { option_copied result ≡ find (touches_range start length) ranges.now }
 {
@@ -207,7 +207,7 @@ impl Image {
         self.entries.len() as u32
     }
 
-    /// The number of guards, which is that of locks.
+    /// The number of guards, one for each lock.
     pub fn guards(&self) -> u32
         ensures value { result ≡ length self.now.guards }
         ensures bound { result ≤ MAX_GUARDS }
@@ -274,7 +274,7 @@ impl Image {
         }
     }
 
-    /// The place of an access, looked for in guards and ranges.
+    /// The place of an access, searched for in guards and ranges.
     #[tactic(auto, unfolding(crate::specs::Places::region_of))]
     pub(crate) fn searched_region(&self, addr: u32, width: u32) -> Region
         ensures { result ≡ region_of self.now addr width }
@@ -298,8 +298,8 @@ impl Image {
         }
     }
 
-    /// What `region` answers. The place of the number `near` is tried first, which costs less where
-    /// it has the access; `near` may be any.
+    /// As `region`, but the place with the number `near` is tried first, which is cheaper if the
+    /// access lies there. `near` may be any number.
     pub fn region_from(&self, near: usize, addr: u32, width: u32) -> Region
         requires { 0 < width }
         ensures { result ≡ region_of self.now addr width }
@@ -310,8 +310,9 @@ impl Image {
         }
     }
 
-    /// What `region` answers. `near` is a number by which the place of the last access is tried
-    /// first; it may be any.
+    /// As `region`. `near` remembers the place of the last access, which is tried first; it may be
+    /// any number.
+    /// Always inlined: it is short, and on the path of each load and store.
     #[inline(always)]
     pub fn region_near(&self, near: &mut usize, addr: u32, width: u32) -> Region
         requires { 0 < width }
@@ -323,7 +324,7 @@ impl Image {
         }
     }
 
-    /// The same, where the place is looked for.
+    /// The slow path of `region_near`: searches for the place.
     #[inline(never)]
     fn region_anew(&self, near: &mut usize, addr: u32, width: u32) -> Region
         requires { 0 < width }
@@ -333,9 +334,10 @@ impl Image {
         self.region_from(*near, addr, width)
     }
 
-    /// By the number of a place in the table, as `region_near` leaves it: the number of its piece
-    /// among those of a thread's own memory in the order of addresses, where it is one. It only
-    /// tells where to look first.
+    /// From the number that `region_near` leaves: the index of that piece among the pieces of a
+    /// thread's own memory, in the order of addresses, if it is one. It is only a hint where to
+    /// look first.
+    /// Always inlined: it is short.
     #[inline(always)]
     pub fn part(&self, near: usize) -> usize {
         match self.places.get(near) {
@@ -344,7 +346,7 @@ impl Image {
         }
     }
 
-    /// The word of the instruction at `pc`; None where its four bytes aren't in one executable
+    /// The instruction word at `pc`; None if its four bytes don't lie in one executable
     /// range.
     #[tactic(auto, unfolding(crate::specs::Places::fetched))]
     pub fn fetch(&self, pc: u32) -> Option<u32>
@@ -355,7 +357,7 @@ impl Image {
         Some(LittleEndian::read_u32(&range.bytes[at..]))
     }
 
-    /// The byte that a range has at an address at the start; None where no range has the address.
+    /// The initial byte at an address; None if no range has the address.
     #[tactic(auto, unfolding(crate::specs::Places::byte_of))]
     pub fn byte(&self, addr: u32) -> Option<u8>
         ensures { result ≡ byte_of self.now addr }
@@ -364,8 +366,8 @@ impl Image {
         Some(range.bytes[(addr - range.start) as usize])
     }
 
-    /// The bytes that one range has from an address on at the start, where it has so many there.
-    /// It costs a copy nothing but its length; `byte` asks all ranges for each byte.
+    /// The initial bytes of one range from an address on, if it has so many there. The cost is that
+    /// of the copy; `byte` searches all ranges for each byte.
     #[tactic(auto, unfolding(crate::specs::Places::byte_of))]
     pub fn bytes(&self, start: u32, count: u32) -> Option<&[u8]>
         ensures count { IfSome result (λ bytes. length bytes.now ≡ count) }

@@ -1,8 +1,8 @@
 //! The threads and the guards of a file.
 //!
-//! The descriptor of the note on them has the words version, number of threads and number of
-//! guards, then a pair of words for each thread and one for each guard. The versions differ only in
-//! how many of both they may have.
+//! The descriptor of their note has the words version, number of threads and number of guards. A
+//! pair of words for each thread and one for each guard follow. The versions differ only in the
+//! greatest numbers of both.
 
 ghost use Rattle.std.specs.Prelude.{◌≡◌, ◌≢◌, ◌≤◌, ◌+◌, ◌*◌, false, length, Some, None, IfOk, IfErr};
 ghost use Rattle.tc_elf.specs.Notes.{has_room, is_bad_descriptor, entries_from, guards_from, layout_over, HasBadNote};
@@ -105,8 +105,8 @@ fn guards_from(
 }
 
 impl Layout {
-    /// The layout of a file, unless its notes are refused. Without a note on it there is one thread
-    /// and no guard.
+    /// The layout of a file, unless its notes are refused. Without a note on threads and guards
+    /// there is one thread and no guard.
     pub(crate) fn of(alloc: Global, bytes: &[u8], segments: &[Segment]) -> Result<Layout, Refusal>
         requires { HEADER_LENGTH ≤ length bytes.now }
         ensures value { IfOk result (λ l. layout_over bytes.now segments.now ≡ Some l) }

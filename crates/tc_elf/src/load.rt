@@ -70,7 +70,7 @@ fn parts(alloc: Global, bytes: &[u8]) -> Result<(Vec<Range>, Layout), Refusal>
     Ok((ranges, layout))
 }
 
-/// The image of a file, or why the file is refused: the first reason in the order of `Refusal`.
+/// The image of a file, or the first reason to refuse it, in the order of `Refusal`.
 pub fn load(alloc: Global, bytes: &[u8]) -> Result<Image, Refusal>
     requires { length bytes.now ≤ MAX_FILE }
     ensures answers { Loads bytes.now result }

@@ -15,7 +15,7 @@ const NOTE_HEADER_LENGTH: usize = 12;
 /// The type of a note on threads and guards.
 const TCLOCKS_TYPE: u32 = 1;
 
-/// A segment of notes or a note is cut, or two notes are on threads and guards.
+/// A segment of notes or a note is cut off, or two notes are on threads and guards.
 #[derive(Debug, Drop)]
 pub(crate) struct BadNotes;
 
@@ -27,7 +27,7 @@ impl From<BadNotes> for Refusal {
     }
 }
 
-/// A length up to a multiple of 4.
+/// A length rounded up to a multiple of 4.
 fn padded(count: u32) -> usize
     ensures { result ≡ padded count }
 {
@@ -56,7 +56,7 @@ fn first_descriptor(bytes: &[u8]) -> Option<&[u8]>
     Some(&bytes[start..start + word_at(bytes, 4) as usize])
 }
 
-/// What stands behind the first note.
+/// What follows the first note.
 fn rest_of(bytes: &[u8]) -> &[u8]
     requires { NOTE_HEADER_LENGTH ≤ length bytes.now }
     ensures { result.now ≡ drop (next_at bytes.now) bytes.now }
@@ -69,7 +69,7 @@ fn rest_of(bytes: &[u8]) -> &[u8]
     }
 }
 
-/// The one descriptor of two searches; two are too many.
+/// The descriptor that one of two searches found; if both found one, that is an error.
 fn only_one<'a>(
     one: Option<&'a [u8]>,
     other: Option<&'a [u8]>,

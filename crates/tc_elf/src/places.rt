@@ -1,4 +1,4 @@
-//! The places of accesses, found once: a table of addresses, all of whose accesses have one place.
+//! A table of the places of accesses: ranges of addresses, each of which lies in one place.
 //!
 //! The address space is cut at each start and end of a range, a guard and the stack, and each piece
 //! has one place.
@@ -14,18 +14,18 @@ use crate::image::{Guard, Image, Range, Region, any_touched, any_writable, lies_
 use crate::limits::{STACK_LENGTH, STACK_START};
 use std::alloc::{AllocError, Global};
 
-/// Addresses from a start on, and before an end, of which each access has this place.
+/// Addresses from a start up to an end: every access in them has this place.
 #[derive(Clone, Copy, Drop)]
 pub(crate) struct AddressRange {
     start: u32,
     end: u64,
     region: Region,
-    /// How many places of a thread's own memory stand before it.
+    /// How many pieces of a thread's own memory come before it.
     pub(crate) part: usize,
 }
 
-/// The nearest of some edges above an address: the known one, a start, and the end that is so far
-/// behind it.
+/// The nearest edge above an address, of three: the known one, a start, and the end that is so far
+/// behind the start.
 fn nearest(at: u32, known: u32, start: u32, length: u32) -> u32 {
     let end = start.saturating_add(length);
     if at < start && start < known {
@@ -37,7 +37,7 @@ fn nearest(at: u32, known: u32, start: u32, length: u32) -> u32 {
     }
 }
 
-/// Whether what begins at `start` and has this length has some of the addresses, and not all.
+/// Whether a range of this start and length contains some of the addresses, but not all.
 fn cuts(addr: u32, width: u32, start: u32, length: u32) -> bool
     ensures { result ≡ cuts addr width start length }
 {
@@ -77,8 +77,8 @@ impl Image {
             || cuts(start, length, STACK_START, STACK_LENGTH)
     }
 
-    /// How many addresses from one on nothing cuts: those before the next edge. One alone is never
-    /// cut.
+    /// How many addresses from one on no edge cuts: those before the next edge. There is at least
+    /// one.
     #[tactic(auto, using(crate::proofs::Table::one_whole))]
     fn piece(&self, start: u32) -> u32
         ensures some { 0 < result }
@@ -108,8 +108,8 @@ impl Image {
         }
     }
 
-    /// How many addresses from one on nothing cuts, as `piece` tells it: all of the place in the table
-    /// that begins there, where one does.
+    /// As `piece`: how many addresses from one on no edge cuts. If an entry of the table begins
+    /// there, it is all of that entry.
     fn known_piece(&self, start: u32) -> u32
         ensures some { 0 < result }
         ensures fits { start + result ≤ 2 ^ 32 }
@@ -121,8 +121,8 @@ impl Image {
         }
     }
 
-    /// How many addresses from one on have all one place in a thread's own memory, and that place:
-    /// `Private`, `Stack`, or `Nothing` where that memory has none of them.
+    /// How many addresses from one on have the same place in a thread's own memory, and that place:
+    /// `Private`, `Stack`, or `Nothing` if that memory has none of them.
     pub fn own_piece(&self, start: u32) -> (u32, Region)
         ensures some { 0 < result.0 }
         ensures fits { start + result.0 ≤ 2 ^ 32 }
@@ -160,13 +160,14 @@ pub(crate) fn places(alloc: Global, image: &Image) -> Result<Vec<AddressRange>, 
     Ok(places)
 }
 
-/// The number of the place that may have an access: the last that begins no later.
+/// The index of the entry that may hold an access: the last that does not begin behind it.
 pub(crate) fn place_number(places: &[AddressRange], addr: u32) -> usize {
     let behind = places.partition_point(|place| place.start <= addr);
     behind.saturating_sub(1)
 }
 
-/// The place of an access, where the place of this number in the table has it.
+/// The place of an access, if the entry with this index holds it.
+/// Always inlined: it is short, and on the path of each load and store.
 #[inline(always)]
 pub(crate) fn place_by(
     places: &[AddressRange],

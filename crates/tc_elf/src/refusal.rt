@@ -6,8 +6,8 @@ ghost use Rattle.tc_elf.specs.declared.refusal.Refusal.TheVariants.{OutOfMemory}
 
 use std::alloc::{AllocError, AllocFailed};
 
-/// Why a file is refused. Of several reasons the first of this list is told; want of memory has no
-/// place in that order.
+/// Why a file is refused. Of several reasons the first in this list is reported; running out of
+/// memory has no place in that order.
 #[derive(Clone, Copy, Debug, PartialEq, Eq)]
 pub enum Refusal {
     /// The file has no room for a header.
@@ -24,19 +24,19 @@ pub enum Refusal {
     BadFlags,
     /// The header has another version, or its program headers aren't as they must be.
     BadHeader,
-    /// The file wants a dynamic linker, an interpreter or storage of a thread's own.
+    /// The file needs a dynamic linker, an interpreter or thread-local storage.
     Dynamic,
-    /// A segment runs past the file or past the address space, or segments want too much memory.
+    /// A segment runs past the file or the address space, or segments need too much memory.
     BadLoad,
     /// Two segments share an address, or one shares one with the stack.
     Overlap,
     /// A segment is both writable and executable.
     WritableCode,
-    /// A note runs past its segment, or the note on threads and guards isn't as it must be.
+    /// A note runs past its segment, or the note on threads and guards isn't in order.
     BadNote,
     /// A thread's first instruction isn't in executable memory at a multiple of 4.
     BadEntry,
-    /// A guard isn't in one writable segment, isn't of whole words, or meets another guard.
+    /// A guard isn't in one writable segment, isn't of whole words, or overlaps another guard.
     BadGuard,
     /// No memory was left for the image.
     OutOfMemory,

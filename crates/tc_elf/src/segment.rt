@@ -21,10 +21,10 @@ const PT_INTERP: u32 = 3;
 /// The type of a segment of notes.
 const PT_NOTE: u32 = 4;
 
-/// The type of a segment of storage of a thread's own.
+/// The type of a segment of thread-local storage.
 const PT_TLS: u32 = 7;
 
-/// A segment, as its program header describes it; words that nothing looks at are left out.
+/// A segment as its program header describes it, without the fields that nothing reads.
 #[derive(Clone, Copy)]
 pub struct Segment {
     kind: u32,
@@ -35,7 +35,7 @@ pub struct Segment {
     flags: u32,
 }
 
-/// The word at a place of some bytes.
+/// The word at an offset of some bytes.
 pub(crate) fn word_at(bytes: &[u8], at: usize) -> u32
     requires { at + 4 ≤ length bytes.now }
     ensures { result ≡ word_at bytes.now at }
@@ -43,7 +43,7 @@ pub(crate) fn word_at(bytes: &[u8], at: usize) -> u32
     LittleEndian::read_u32(&bytes[at..])
 }
 
-/// The half word at a place of some bytes.
+/// The half word at an offset of some bytes.
 pub(crate) fn half_at(bytes: &[u8], at: usize) -> u16
     requires { at + 2 ≤ length bytes.now }
     ensures { result ≡ half_at bytes.now at }
@@ -52,7 +52,7 @@ pub(crate) fn half_at(bytes: &[u8], at: usize) -> u16
 }
 
 impl Segment {
-    /// The segment of the program header at a place of the file.
+    /// The segment whose program header is at an offset of the file.
     pub(crate) fn at(bytes: &[u8], at: usize) -> Segment
         requires { at + 32 ≤ length bytes.now }
         ensures { result ≡ segment_at bytes.now at }
@@ -108,14 +108,14 @@ impl Segment {
         &bytes[start..start + self.file_size as usize]
     }
 
-    /// Whether the segment is for a dynamic linker, an interpreter or a thread's own storage.
+    /// Whether the segment is for a dynamic linker, an interpreter or thread-local storage.
     pub(crate) fn is_dynamic(&self) -> bool
         ensures { result ≡ is_dynamic self.now }
     {
         self.kind == PT_DYNAMIC || self.kind == PT_INTERP || self.kind == PT_TLS
     }
 
-    /// Whether the segment is loaded, and runs past the file, its size in memory or the address
+    /// Whether the segment is loaded, and exceeds the file, its size in memory or the address
     /// space.
     pub(crate) fn is_bad_load(&self, bytes: &[u8]) -> bool
         ensures { result ≡ is_bad_load bytes.now self.now }
@@ -158,7 +158,7 @@ impl Segment {
         self.is_range() && meets(self.address, self.memory_size, STACK_START, STACK_LENGTH)
     }
 
-    /// Whether the segment is code that may be written to.
+    /// Whether the segment is writable code.
     pub(crate) fn is_writable_code(&self) -> bool
         ensures { result ≡ is_writable_code self.now }
     {

@@ -62,7 +62,7 @@ fn file(alloc: Global, words: &[u32], changes: &[(usize, u32)]) -> Result<Vec<u8
     Ok(bytes)
 }
 
-/// The number of a file's refusal, or 0 where it is loaded.
+/// The number of a file's refusal, or 0 if it is loaded.
 fn refused(alloc: Global, bytes: &[u8]) -> u32 {
     match load(alloc, &bytes[..bytes.len().min(MAX_FILE)]) {
         Ok(_) => 0,

@@ -17,6 +17,7 @@ use tc_isa::reg::Reg;
 use tc_isa::regs::Regs;
 
 /// How many bytes a load or a store is of.
+/// Only this crate has the type: `Want`, `Put` and the calls of other crates have the width as a number.
 #[derive(Clone, Copy)]
 pub(crate) enum Width {
     Byte,
@@ -178,7 +179,7 @@ pub(crate) fn fault_of_load(
     load_fault(held, region, addr, width)
 }
 
-/// Finishes a load, of which `number` is the loaded number.
+/// Finishes a load: `number` is the loaded number.
 pub fn finish_load(regs: &mut Regs, kind: LoadKind, rd: Reg, number: u32)
     ensures { Next regs.new None ≡ flow.set regs.old rd (access.extended kind number) }
 {

@@ -79,7 +79,7 @@ pub fn value_of(op: RegOp, a: u32, b: u32) -> u32
     }
 }
 
-/// The operation on registers that an operation with an immediate is.
+/// The register operation that an operation with an immediate performs.
 pub fn op_of_imm(op: ImmOp) -> RegOp
     ensures { result ≡ arithmetic.op_of_imm op }
 {

@@ -1,7 +1,7 @@
-//! Decoded code: the words of an image, each decoded once.
+//! Decoded code: each word of an image, decoded once.
 //!
-//! The table is sound and not complete: a place that it has is the instruction there, and a place
-//! that it has not tells nothing. So what is not found in it is fetched and decoded as ever.
+//! The table is sound, not complete: an entry is the instruction at its place, and a missing entry
+//! says nothing. What is not found in the table is fetched and decoded as without one.
 
 ghost use Rattle.std.specs.Prelude.{◌≡◌, ℕ, ◌*◌, ◌+◌, ◌<◌, ◌≤◌, ◌^◌, IfOk, IfSome, MatchBool, length};
 ghost use Rattle.tc_isa.specs.Sets.{has};
@@ -30,6 +30,7 @@ struct Part {
 }
 
 /// The decoded code of an image. A contract sees the image.
+/// Packages share it by `Arc`, since a copy costs 20 bytes a word for each thread.
 #[derive(Drop)]
 pub struct Code {
     of: Snapshot<Image>,
@@ -47,24 +48,24 @@ impl Model for Code {
     ghost invariant = { λ c. PartsTell c.of.value c.parts.items };
 }
 
-/// Decoded words that stand in a row, four bytes for each.
+/// Consecutive decoded words, four bytes for each.
 #[derive(Clone, Copy)]
 pub struct Stretch<'a> {
     start: u32,
     slots: &'a [Option<Instr>],
 }
 
-/// What is known of the next instruction before its turn.
+/// What is known of the next instruction before it runs.
 #[derive(Clone, Copy)]
 pub struct Ahead<'a> {
-    /// The lock that it takes, where it is a lawful LOCK.
+    /// The lock that it takes, if it is a LOCK that does not fault.
     pub lock: Option<u32>,
-    /// The instruction, where it was looked for and was decoded. None says nothing.
+    /// The instruction, if it was looked up and decoded. None says nothing.
     pub instr: Option<&'a Instr>,
 }
 
 impl<'a> Stretch<'a> {
-    /// The number of a place's slot. A number that no slot has says that there is none.
+    /// The index of a place's slot. An index that no slot has means that there is none.
     pub fn slot(&self, pc: u32) -> usize
         ensures { result < length self.now.slots.now → self.now.start + 4 * result ≡ pc }
     {
@@ -148,8 +149,8 @@ impl Code {
         })
     }
 
-    /// The code of an image with nothing decoded. It takes no memory, and each instruction costs
-    /// what it costs without a table.
+    /// The code of an image with nothing decoded. It allocates nothing, and every instruction is
+    /// fetched and decoded when it runs.
     pub fn undecoded(alloc: Global, image: &Image) -> Code
         ensures { result ≡ image.now }
     {
@@ -159,7 +160,7 @@ impl Code {
         }
     }
 
-    /// The instruction at a place, where it was decoded. None says nothing.
+    /// The instruction at a place, if it was decoded. None says nothing.
     pub fn find(&self, pc: u32) -> Option<&Instr>
         ensures { IsInstrAt self.now pc result }
     {
@@ -167,7 +168,7 @@ impl Code {
         stretch.find(stretch.slot(pc))
     }
 
-    /// The words round a place, where that was decoded.
+    /// The words around a place, if it was decoded.
     pub fn stretch(&self, pc: u32) -> Option<Stretch<'_>>
         ensures { IfSome result (λ s. IsTelling self.now s.start s.slots.now) }
     {
@@ -182,8 +183,9 @@ impl Code {
         None
     }
 
-    /// What is ahead of registers: the lock that `step::lock_wanted` answers, and the instruction,
-    /// where it is known or had to be looked for and was decoded.
+    /// What comes next at these registers: the lock that `step::lock_wanted` answers, and the
+    /// instruction, if it is known or was looked up and decoded.
+    /// Always inlined: left to the compiler, steps and short blocks cost more instructions.
     #[inline(always)]
     pub fn ahead<'a>(
         &'a self,

@@ -1,7 +1,7 @@
-//! What an instruction does, arm by arm: the one table of instructions in code.
+//! What each instruction does, an arm for each: the one table of instructions in code.
 //!
-//! What an instruction does to the registers alone is done at once. A load, a store and a guest call
-//! need more than the registers, so they are told, with what they need of the registers.
+//! The effect on the registers is done at once. A load, a store and a guest call need more than the
+//! registers, so they are returned with the values that they need.
 
 ghost use Rattle.std.specs.Prelude.{◌≡◌};
 ghost use Rattle.tc_isa.specs.Registers.{get};

@@ -1,4 +1,4 @@
-//! Guest calls.
+//! Guest calls (ECALL).
 
 ghost use Rattle.std.specs.Prelude.{◌≡◌, ◌==◌};
 ghost use Rattle.tc_isa.specs.Registers.{get};
@@ -65,7 +65,7 @@ fn unlock_fault(image: &Image, held: Held, lock: u32) -> Option<Fault>
     }
 }
 
-/// Comes back from a guest call with its answer.
+/// Returns from a guest call with its answer.
 pub fn come_back(regs: &mut Regs, answer: u32)
     ensures { regs.new ≡ calls.answered regs.old answer }
 {

@@ -1,9 +1,9 @@
-//! The laws of one instruction.
+//! The lemmas about one instruction.
 
 ghost use Rattle.tc_exec.specs.Statements.{GuardIsHeld, PutIsHeld, UnlockIsHeld, LockIsFree, LockWantsNothing, LockIsAbove, AnswerIsUnread, RegistersAreKept};
 
-/// All that the layers above need to know of instructions, whatever the instruction is. A law: it
-/// does nothing when it is called.
+/// All that the layers above need to know of instructions, whatever the instruction is. A lemma:
+/// the function has no effect when it is called.
 pub fn laws()
     ensures guard_is_held { GuardIsHeld }
     ensures put_is_held { PutIsHeld }

@@ -1,4 +1,4 @@
-//! The next instruction, where it is known: one look serves both of its calls.
+//! The next instruction, if it is already known: one lookup serves both of its calls.
 
 ghost use Rattle.std.specs.Prelude.{◌≡◌, Ok};
 ghost use Rattle.tc_isa.specs.Sets.{has};
@@ -15,8 +15,8 @@ use tc_isa::held::Held;
 use tc_isa::instr::Instr;
 use tc_isa::regs::Regs;
 
-/// What `step::wants` answers, where this is the next instruction. `near` is as in
-/// `Image::region_from`: it changes nothing but what the call costs.
+/// What `step::wants` answers if this is the next instruction. `near` is as in
+/// `Image::region_from`: it affects only the cost of the call.
 #[tactic(auto, unfolding(crate::specs::Step::wants_of, crate::specs::Step::wants_by))]
 pub fn wants(image: &Image, near: usize, held: Held, regs: &Regs, instr: &Instr) -> Want
     requires { step.instruction_at image.now regs.now.pc ≡ Ok instr.now }
@@ -31,9 +31,9 @@ pub fn wants(image: &Image, near: usize, held: Held, regs: &Regs, instr: &Instr)
     }
 }
 
-/// Does the next instruction to the registers, and says what it did beside them, where this is the
-/// instruction, and that is what it wants. `near` is as in `wants`. `answer` is as in `step::act`,
-/// which tells the same of registers that it leaves alone; this costs much less.
+/// Executes the next instruction on the registers and returns its other effect, given the
+/// instruction and what it wants. `near` is as in `wants`, `answer` as in `step::act`. `step::act`
+/// says the same without changing the registers, at a much higher cost.
 #[tactic(auto, unfolding(crate::specs::Step::act_of, crate::specs::Step::wants_of, crate::specs::Access::load))]
 pub fn go(
     image: &Image,

@@ -30,7 +30,7 @@ pub struct Put {
     pub value: u32,
 }
 
-/// A lawful guest call.
+/// A guest call that does not fault.
 #[derive(Clone, Copy, Debug, PartialEq, Eq)]
 pub enum Call {
     /// The thread takes a lock.
@@ -46,7 +46,7 @@ pub enum Call {
 /// What an instruction does.
 #[derive(Clone, Copy, Debug, PartialEq, Eq)]
 pub enum Act {
-    /// The thread goes on with these registers, after a store where there is one.
+    /// The thread goes on with these registers, after a store if there is one.
     Next { regs: Regs, put: Option<Put> },
     /// A guest call. The registers are those after it.
     Called { call: Call, regs: Regs },
@@ -54,7 +54,7 @@ pub enum Act {
     Faulted(Fault),
 }
 
-/// What an instruction does beside the registers, which have it already.
+/// What an instruction does besides its effect on the registers, which is done already.
 #[derive(Clone, Copy, Debug, PartialEq, Eq)]
 pub enum Done {
     /// The thread goes on.

@@ -21,8 +21,8 @@ use tc_isa::regs::Regs;
 /// The word of ECALL.
 const ECALL: u32 = 0x73;
 
-/// The instruction at a place, or why there is none: `Fault::Fetch` where no executable range has
-/// its four bytes, and `Fault::Illegal` where they are no instruction.
+/// The instruction at a place, or why there is none: `Fault::Fetch` if no executable range has its
+/// four bytes, `Fault::Illegal` if they are no instruction.
 #[tactic(auto, unfolding(crate::specs::Step::instruction_at))]
 pub fn instruction_at(image: &Image, pc: u32) -> Result<Instr, Fault>
     ensures { result ≡ step.instruction_at image.now pc }
@@ -31,8 +31,8 @@ pub fn instruction_at(image: &Image, pc: u32) -> Result<Instr, Fault>
     decode(word).ok_or(Fault::Illegal)
 }
 
-/// The load that the next instruction needs. It is `Want::Nothing` also where the instruction
-/// faults, so that what is wanted may always be read.
+/// The load that the next instruction needs. It is `Want::Nothing` also if the instruction faults,
+/// so a want can always be read.
 #[tactic(auto, unfolding(crate::specs::Step::wants_of))]
 pub fn wants(image: &Image, held: Held, regs: &Regs) -> Want
     ensures { IsWantOf image.now (has held) regs.now result }
@@ -44,9 +44,9 @@ pub fn wants(image: &Image, held: Held, regs: &Regs) -> Want
 }
 
 /// What the next instruction does. `answer` is the number that `wants` asked for, zero-extended
-/// from its width; for a lawful LOCK it is 1 where the lock is broken and else 0; otherwise it is
-/// not looked at. The effects are those of RV32IM (RISC-V Unprivileged ISA); an ECALL is a guest
-/// call by the number in x17.
+/// from its width. For a LOCK that does not fault it is 1 if the lock is broken (poisoned), else 0.
+/// Otherwise it is ignored. The effects are those of RV32IM (RISC-V Unprivileged ISA); an ECALL is
+/// a guest call by the number in x17.
 #[tactic(auto, unfolding(crate::specs::Step::act_of))]
 pub fn act(image: &Image, held: Held, regs: &Regs, answer: u32) -> Act
     ensures { IsActOf image.now (has held) regs.now answer result }
@@ -91,8 +91,8 @@ pub(crate) fn lock_called(image: &Image, held: Held, regs: &Regs) -> Option<u32>
     }
 }
 
-/// The lock that the next instruction takes, where that is a lawful LOCK. It is so whatever is
-/// answered, and costs much less than `act`.
+/// The lock that the next instruction takes, if it is a LOCK that does not fault. That does not
+/// depend on the answer, and costs much less than `act`.
 #[tactic(auto, using(crate::proofs::NoLock::taken_none))]
 pub fn lock_wanted(image: &Image, held: Held, regs: &Regs) -> Option<u32>
     ensures { (answer : ℕ) → result ≡ taken_by (step.act_of image.now (has held) regs.now answer) }

@@ -17,7 +17,7 @@ use Rattle.tc_hall.specs.Steps.{after_claim, after_seal, after_put, after_take, 
 abbrev pub Hall : Type 0
 Hall = State (Option Cargo) Knows
 
--- a step: the word that it leaves, as what, what the pass holds before, what it knows after, and which slot comes or goes
+-- a step: the word, its new value, what the pass holds before, its state after, and which slot it takes or fills
 pub record Effect : Type 0 where
   pub word : ℕ
   pub left : ℕ
@@ -33,7 +33,7 @@ after s id e = stepped s e.word e.left id e.holds e.knows e.act
 abbrev pub claim_effect : Knows → ℕ → PackageView → Effect
 claim_effect v t q = record { word = slot_word t; left = OUT + v.worker; holds = []; knows = record (after_claim v q) { open_slot = Some t }; act = takes t (Some (Package q)) }
 
--- `commit` of the package q with this pending block, at the stamp that was found
+-- `commit` of the package q with this pending block, at the stamp that was read
 abbrev pub commit_effect : Knows → ℕ → Block → PackageView → Effect
 commit_effect v stamp b q =
     record { word = CLOCK; left = (stamp + 1) % 18446744073709551616; holds = []; knows = after_seal v (sealed_block stamp v.worker b) (with_seal stamp v.worker q); act = keeps }
@@ -48,7 +48,7 @@ take_effect n v i l = record { word = slot_word (n + i); left = 1; holds = []; k
 abbrev pub free_effect : ℕ → Knows → LockView → Effect
 free_effect n v l = record { word = slot_word (n + l.number); left = 0; holds = (n + l.number, Some (Lock l)) ∷ []; knows = record (after_free v l) { open_slot = None }; act = gives }
 
--- `look` and `stopped` leave the word that they find
+-- `look` and `stopped` leave the word unchanged
 abbrev pub look_effect : Knows → ℕ → ℕ → Effect
 look_effect v t found = record { word = slot_word t; left = found; holds = []; knows = with_call v (Look t found); act = keeps }
 
@@ -58,11 +58,11 @@ stop_effect v = record { word = STOP; left = 1; holds = []; knows = with_call v 
 abbrev pub stopped_effect : Knows → ℕ → Effect
 stopped_effect v found = record { word = STOP; left = found; holds = []; knows = with_call v (Stopped found); act = keeps }
 
--- a compare-and-swap that fails leaves it too
+-- a compare-and-swap that fails leaves it unchanged too
 abbrev pub miss_effect : Knows → ℕ → ℕ → Effect
 miss_effect v word found = record { word = word; left = found; holds = []; knows = after_miss v word found; act = keeps }
 
--- an empty slot goes into the pass's hand, and back; the word stays
+-- the pass takes an empty slot, and gives it back; the word stays
 abbrev pub reach_effect : Knows → ℕ → ℕ → Effect
 reach_effect v slot found = record { word = slot_word slot; left = found; holds = []; knows = record v { open_slot = Some slot }; act = takes slot None }
 
@@ -73,6 +73,6 @@ lay_effect v slot found = record { word = slot_word slot; left = found; holds = 
 abbrev pub with_new_pass : Hall → ℕ → Knows → Hall
 with_new_pass s id v = record { words = s.words; homes = s.homes; views = slice_set s.views id (dealt v) ++ fresh v ∷ [] }
 
--- the pass id takes in the other, which ends
+-- the pass id joins the other, which ends
 abbrev pub with_joined : Hall → ℕ → Knows → ℕ → Knows → Hall
 with_joined s id v other w = record { words = s.words; homes = s.homes; views = slice_set (slice_set s.views id (merged v w)) other gone }

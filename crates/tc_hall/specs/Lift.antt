@@ -1,5 +1,5 @@
--- Whole runs: the operations of a hall in their order, with events of the lines put in between, are one list of events of the
--- pure machine, and each is enabled when it comes, if the lines allow it.
+-- Simulation of whole runs: the operations of a hall in their order, with events of waiting queues
+-- inserted, are a list of enabled events of the abstract machine, if the queues allow it.
 use Rattle.std.specs.Prelude.{◌≡◌, ℕ, ◌+◌, ◌<◌, true, false, List, [], ◌∷◌, ◌++◌, slice_index, Some}
 use mathlib.Core.Option.{some}
 use lib.ListN.{get_elem?}
@@ -20,19 +20,19 @@ use Rattle.tc_hall.specs.Effects.{Hall}
 use Rattle.tc_hall.specs.Order.{Made, MayCome, after_operation, IsOpening}
 use Rattle.tc_hall.specs.Ties.{machine_limits, after_events, IsLooseIn, IsOf, Shows}
 
--- ---- what events ask of lines, of grants and of the batch rule, which is no part of an outline
+-- ---- the conditions on queues, grants and the batch rule, which no outline has
 
--- not all have left the lock, and the thread is the next of its line
+-- not all have left the lock, and the thread is the next of its queue
 abbrev pub IsNext : Core → ℕ → ℕ → Type 0
 IsNext c t lock = ((c.custody lock).left ≡ false) × (is_second (c.custody lock).line t ≡ true)
 
--- the thread is not in the line of the lock that its next turn takes, or was granted that lock
+-- the thread is not in the queue of the lock that its next step takes, or was granted that lock
 abbrev pub HasNotEntered : HallTerms → Core → ℕ → Type 0
 HasNotEntered k c t = has_entered (next_lock k.image.value (c.machine.threads t)) t c ≡ false
 
--- what lines, grants and the batch rule have to say for an event
+-- the conditions on queues, grants and the batch rule for an event
 abbrev pub LinesAllow : HallTerms → Core → Event → Type 0
--- the lock that a turn takes was granted to its thread
+-- the lock that a step takes was granted to its thread
 LinesAllow k c (Turn w t) = (lock : ℕ) → next_lock k.image.value (c.machine.threads t) ≡ Some lock → is_granted (c.custody lock).place t ≡ true
 LinesAllow k c (Enter w t lock) = is_in_line (c.custody lock).line t ≡ false
 LinesAllow k c (Take w t lock) = is_first (c.custody lock).line t ≡ true
@@ -46,12 +46,12 @@ LinesAllow k c (HandBack w t) = HasNotEntered k c t
 LinesAllow k c (Park w t) = HasNotEntered k c t
 LinesAllow k c e = Unit {0}
 
--- and for each of a list when it comes
+-- and for each event of a list
 abbrev pub LinesAllowAll : HallTerms → Core → List Event → Type 0
 LinesAllowAll k c [] = Unit {0}
 LinesAllowAll k c (e ∷ es) = LinesAllow k c e × LinesAllowAll k (effect k.image.value c e) es
 
--- an operation of the hall with the events that it is, or an event of a line, of which a hall shows nothing
+-- an operation of the hall with its events, or an event of a queue, which a hall does not represent
 pub data Beat : Type 0 where
   operation : Made → List Event → Beat
   enter : ℕ → ℕ → ℕ → Beat
@@ -71,7 +71,7 @@ hall_of k s (operation m es ∷ before) = after_operation k (hall_of k s before)
 hall_of k s (enter w t lock ∷ before) = hall_of k s before
 hall_of k s (leave w lock ∷ before) = hall_of k s before
 
--- the core at the start, and after the events
+-- the machine at the start, and after the events
 abbrev pub start_of : HallTerms → Core
 start_of k = first_core k.image.value k.fuel
 
@@ -80,7 +80,7 @@ core_after k beats = after_events k (start_of k) (events_of beats)
 
 -- ---- where a beat may come
 
--- the thread is out with the worker and runs, and its next turn takes the lock
+-- the thread is out with the worker and runs, and its next step takes the lock
 pub record IsAtLock (k : HallTerms) (s : Hall) (c : Core) (w t lock : ℕ) : Type 0 where
   pub below : t < threads k
   pub word : slice_index s.words (slot_word t) ≡ OUT + w
@@ -99,7 +99,7 @@ pub record HasLoose (s : Hall) (c : Core) (w lock : ℕ) : Type 0 where
 
 abbrev pub MayLift : HallTerms → Hall → List Beat → Type 0
 MayLift k s [] = Unit {0}
--- the operation may come in the hall, is these events, and the lines allow them
+-- the operation may come in the hall, is these events, and the queues allow them
 MayLift k s (operation m es ∷ before) =
     MayCome k (hall_of k s before) m × IsOf k (hall_of k s before) (core_after k before) m.knew m.operation es
     × LinesAllowAll k (core_after k before) es × MayLift k s before
@@ -108,13 +108,13 @@ MayLift k s (enter w t lock ∷ before) =
 MayLift k s (leave w lock ∷ before) =
     HasLoose (hall_of k s before) (core_after k before) w lock × LinesAllow k (core_after k before) (Leave w lock) × MayLift k s before
 
--- ---- the law
+-- ---- the theorem
 
--- a new hall shows the first state of the pure machine
+-- a new hall represents the first state of the abstract machine
 abbrev pub OpensShown : Type 0
 OpensShown = (k : HallTerms) (s : Hall) → IsOpening k s → Shows k s (start_of k)
 
--- all events are enabled, each when it comes, and after them the hall shows the core
+-- all events are enabled, and after them the hall represents the machine
 pub record IsLifted (k : HallTerms) (s : Hall) (beats : List Beat) : Type 0 where
   pub enabled : AreEnabled k.image.value (machine_limits k) (start_of k) (events_of beats)
   pub shows : Shows k (hall_of k s beats) (core_after k beats)

@@ -1,4 +1,4 @@
--- What `Hall::new` makes, and what holds while it and `Hall::close` go over the slots.
+-- What `Hall::new` makes, and the loop invariants of it and of `Hall::close`.
 use Rattle.std.specs.Prelude.{◌≡◌, ℕ, ◌+◌, ◌-◌, ◌<◌, ◌≤◌, Bool, true, false, List, [], length, slice_index_or, Option, Some}
 use mathlib.Core.Option.{some}
 use lib.ListN.{get_elem?}
@@ -31,13 +31,13 @@ pub record AreDealt (image : Shown) (n m workers : ℕ) (table : TableId) (passe
   pub count : length passes ≡ workers
   pub each : (i : ℕ) (p : PassView) → get_elem? passes i ≡ some p → (p.table ≡ table) × IsNew image n m i p.knows
 
--- the seat that makes the others has made this many
+-- the seat that makes the others has made so many
 pub record IsMaker (image : Shown) (n m workers made : ℕ) (z : TableId) (seat : Seat (Option Cargo) Knows) : Type 0 where
   pub table : seat.table_id ≡ z
   pub free : seat.me.1 ≡ []
   pub view : seat.me.0 ≡ record (clean image n m (workers - 1) true) { made = made }
 
--- what was taken from the slots, from the place off on
+-- what was taken from the slots, from the index off on
 pub record AreTaken {A : Type 0} (wrap : A → Cargo) (off n : ℕ) (slots : List (Option Cargo)) (xs : List A) : Type 0 where
   pub count : length xs ≡ n
   pub each : (i : ℕ) (a : A) → get_elem? xs i ≡ some a → get_elem? slots (off + i) ≡ some (Some (wrap a))

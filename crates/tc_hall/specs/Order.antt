@@ -1,5 +1,5 @@
--- The rule of the table: all operations of the passes stand in one order, each allowed where it stands, and the table is what
--- their effects make of it from the opening.
+-- The invariant of the table: all operations of the passes have a total order, each is allowed
+-- where it comes, and their effects from the opening give the table.
 use Rattle.std.specs.Prelude.{◌≡◌, ◌≢◌, ◌⊎◌, ℕ, ◌+◌, ◌%◌, ◌<◌, ◌≤◌, ◌==◌, true, false, if◌then◌else◌, List, [], ◌∷◌, ◌++◌, length, replicate, slice_index, Option, Some, None}
 use mathlib.Core.Option.{some}
 use lib.ListN.{get_elem?}
@@ -29,24 +29,24 @@ pub data Operation : Type 0 where
   claim : ℕ → PackageView → Operation
   -- the state of a lock is taken
   take : ℕ → LockView → Operation
-  -- a compare-and-swap on a word asks for one number and finds another
+  -- a compare-and-swap on a word expects one number and finds another
   miss : ℕ → ℕ → ℕ → Operation
   -- the pending block of a package is sealed, with this stamp
   commit : ℕ → Block → PackageView → Operation
   put : PackageView → Place → Operation
   free : LockView → Operation
-  -- the word of a thread, and the stop word, are found to be this
+  -- the word of a thread, and the stop word, were read as this
   look : ℕ → ℕ → Operation
   stopped : ℕ → Operation
   stop : Operation
-  -- an empty slot is taken in hand, and laid back
+  -- an empty slot is taken, and given back
   reach : ℕ → Operation
   lay : ℕ → Operation
-  -- another pass is made; another, which knows this, ends in this one
+  -- another pass is made; another, with this state, is joined into this one
   split : Operation
   join : ℕ → Knows → Operation
 
--- the table after an operation of the pass id, which knows v
+-- the table after an operation of the pass id, whose state is v
 abbrev pub after_operation : HallTerms → Hall → ℕ → Knows → Operation → Hall
 after_operation k s id v (claim t q) = after s id (claim_effect v t q)
 after_operation k s id v (take i l) = after s id (take_effect (threads k) v i l)
@@ -89,7 +89,7 @@ pub record MayFill (k : HallTerms) (v : Knows) (q : PackageView) (place : Place)
   pub range : IsInRange (locks k) place
   pub may : MayPut place v q
 
--- the pass id, which knows v, may do this now
+-- the pass id, whose state is v, may do this now
 abbrev pub MayDo : HallTerms → Hall → ℕ → Knows → Operation → Type 0
 MayDo k s id v (claim t q) = MayClaim k s v t q
 MayDo k s id v (take i l) = MayTake k s v i l
@@ -105,7 +105,7 @@ MayDo k s id v (lay slot) = (v.open_slot ≡ Some slot) × IsSlotOut k v slot
 MayDo k s id v split = (v.maker ≡ true) × (v.made < v.worker)
 MayDo k s id v (join other w) = (get_elem? s.views other ≡ some w) × (w.spent ≡ false) × (other ≢ id) × IsFree w
 
--- an operation, the pass that made it, and what the pass knew
+-- an operation, the pass that made it, and the state of the pass before it
 pub record Made : Type 0 where
   pub pass : ℕ
   pub knew : Knows
@@ -127,15 +127,15 @@ abbrev pub IsLegal : HallTerms → Hall → List Made → Type 0
 IsLegal k s [] = Unit {0}
 IsLegal k s (m ∷ before) = MayCome k (hall_after k s before) m × IsLegal k s before
 
--- a new hall: each thread is ready with its package at its start, each lock is home and fresh, the clock and the stop word are
--- 0, and one pass has nothing out
+-- a new hall: each thread is ready with its package at its start, each lock is fresh in its slot,
+-- the clock and the stop word are 0, and one pass has nothing out
 pub record IsOpening (k : HallTerms) (s : Hall) : Type 0 where
   pub limits : IsInLimits k
   pub slots : List (Option Cargo)
   pub stocked : AreStocked k.image.value (threads k) (locks k) k.fuel k.limit slots
   pub is : s ≡ opening (replicate (slot_word (threads k + locks k)) 0) slots (starting k)
 
--- ---- the rule
+-- ---- the invariant
 
 pub record IsOrdered (k : HallTerms) (s : Hall) : Type 0 where
   pub first : Hall
@@ -146,7 +146,7 @@ pub record IsOrdered (k : HallTerms) (s : Hall) : Type 0 where
 
 -- ---- each pass's part of the order
 
--- what a pass notes of its operations and of those of the passes that were joined into it
+-- what a pass records of its operations and of those of the passes that were joined into it
 pub record Notes : Type 0 where
   pub calls : List PassCall
   pub sealed : List Block
@@ -163,7 +163,7 @@ with_noted n c = record n { calls = n.calls ++ c ∷ [] }
 abbrev pub both_notes : Notes → Notes → Notes
 both_notes n o = record { calls = n.calls ++ o.calls; sealed = n.sealed ++ o.sealed; missed = n.missed ++ o.missed; claimed = n.claimed ++ o.claimed; taken = n.taken ++ o.taken }
 
--- the notes of the pass id after its operation, where all passes had these
+-- the notes of the pass id after its operation, if all passes had these before
 abbrev pub noted : (ℕ → Notes) → ℕ → Knows → Operation → Notes
 noted all id v (claim t q) = record (all id) { claimed = (all id).claimed ++ q ∷ [] }
 noted all id v (take i l) = record (all id) { taken = (all id).taken ++ l ∷ [] }
@@ -193,7 +193,7 @@ pub record HasNoted (v : Knows) (n : Notes) : Type 0 where
 
 -- ---- what holds after every order
 
--- the word of a thread: the code of the place where its package was put, or the worker that it is out with
+-- the word of a thread: the code of the place where its package was put, or the worker that has it
 pub data IsThreadWord (k : HallTerms) (word : ℕ) : Type 0 where
   put_at : (place : Place) → IsInRange (locks k) place → word ≡ code_of place → IsThreadWord k word
   out_with : (worker : ℕ) → worker < k.workers → word ≡ OUT + worker → IsThreadWord k word
@@ -203,17 +203,17 @@ pub record AreExact (k : HallTerms) (words : List ℕ) : Type 0 where
   pub of_threads : (t : ℕ) → t < threads k → IsThreadWord k (slice_index words (slot_word t))
   pub of_locks : (i : ℕ) → i < locks k → slice_index words (slot_word (threads k + i)) ≤ 1
   pub of_stop : slice_index words STOP ≤ 1
-  -- no step is on a word that doesn't start two pairs of cache lines
+  -- no step is on a word that isn't the first of two pairs of cache lines
   pub between : (word : ℕ) → word < length words → word % LINE ≢ 0 → slice_index words word ≡ 0
 
--- between any two operations the rules of places, words and history hold
+-- between any two operations the invariants of places, words and history hold
 abbrev pub IsKept : Type 0
 IsKept = (k : HallTerms) (s : Hall) → IsOrdered k s → KeptHall k s
 
--- each live pass has in its lists its own operations in their order, and no others
+-- each live pass has in its lists exactly its own operations, in order
 abbrev pub HasOwnNotes : Type 0
 HasOwnNotes = (k : HallTerms) (s : Hall) (d : IsOrdered k s) (id : ℕ) (v : Knows) → get_elem? s.views id ≡ some v → v.spent ≡ false → HasNoted v (notes_of d.order id)
 
--- and each word is one of those that it may be
+-- and each word has one of its possible values
 abbrev pub HasExactWords : Type 0
 HasExactWords = (k : HallTerms) (s : Hall) → IsOrdered k s → AreExact k s.words

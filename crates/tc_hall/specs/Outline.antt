@@ -1,4 +1,4 @@
--- What is seen of the pure machine between blocks.
+-- What an outline shows of the abstract machine between blocks.
 use Rattle.std.specs.Prelude.{◌≡◌, ℕ, Option, None}
 use Rattle.tc_journal.specs.declared.block.End.{End}
 use Rattle.tc_turn.specs.Turn.{Thread, Mutex}
@@ -11,14 +11,14 @@ use Rattle.tc_core.specs.declared.place.LockPlace.{LockPlace}
 use Rattle.tc_core.specs.declared.place.LockPlace.TheVariants.{With, Granted, Loose}
 use Rattle.tc_core.specs.declared.place.LockPlace.TheVariants as place
 
--- where a lock lies: in its slot, in the hand of a worker, or in the package of a thread
+-- where a lock is: in its slot, with a worker, or in the package of a thread
 pub data Lying : Type 0 where
   at_home : Lying
   in_hand : ℕ → Lying
   packed : ℕ → Lying
 
--- for each thread its place, what the machine has of it, and how its last block ended; for each lock what the machine has of
--- it, but for the owner, and where it lies
+-- for each thread its place, its state in the machine, and how its last block ended; for each lock
+-- its state in the machine, except for the owner, and where it is
 pub record Outline : Type 0 where
   pub place : ℕ → ThreadPlace
   pub thread : ℕ → Thread

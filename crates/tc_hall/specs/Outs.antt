@@ -1,4 +1,4 @@
--- What a pass has out, as two functions, and what a package with its locks or a lock state alone is of it.
+-- What a pass has out, as two functions, and the part of it that is a package with its locks or a lock state.
 use Rattle.std.specs.Prelude.{◌≡◌, ℕ, ◌==◌, if◌then◌else◌, List, ◌++◌, slice_index_or, Option, Some, None}
 use Rattle.tc_segment.specs.View.{LockView, kept}
 use Rattle.tc_context.specs.View.{PackageView, bare}
@@ -27,7 +27,7 @@ abbrev pub keep : Option LockView → Option LockView
 keep None = None
 keep (Some l) = Some (kept l)
 
--- the part of what is out that an item is
+-- the part of what is out that is an item's
 abbrev pub part : Item → Outs
 part (Pack q) = record { context = λ u. if u == q.context.thread then Some (bare q) else None; lock = λ i. keep (locked_in q i) }
 part (Loose l) = record { context = λ u. None; lock = λ i. if i == l.number then Some (kept l) else None }
@@ -44,8 +44,8 @@ pub record Within (f o : Outs) : Type 0 where
   pub contexts : (u : ℕ) (c : PackageView) → f.context u ≡ Some c → o.context u ≡ Some c
   pub locks : (i : ℕ) (l : LockView) → f.lock i ≡ Some l → o.lock i ≡ Some l
 
--- the item is out: the package, but for its grant, its locks and its count of turns, and each lock state are as the pass
--- keeps them
+-- the item is out: the package, except for its grant, its locks and its count of queue turns, and
+-- each lock state are as the pass records them
 abbrev pub IsOut : Outs → Item → Type 0
 IsOut o x = Within (part x) o
 
@@ -53,12 +53,12 @@ IsOut o x = Within (part x) o
 abbrev pub erase : Outs → Item → Outs
 erase o x = minus o (part x)
 
--- the item came out, and was not out before, nor any part of it
+-- the item came out, and neither it nor a part of it was out before
 pub record CameOut (x : Item) (v w : Knows) : Type 0 where
   pub out : IsOut (outs w) x
   pub before : erase (outs w) x ≡ outs v
 
--- these calls were added, and of image, worker, sealed blocks and joined passes nothing changed
+-- these calls were added, and the image, worker, sealed blocks and joined passes are unchanged
 pub record Called (cs : List PassCall) (v w : Knows) : Type 0 where
   pub image : w.image ≡ v.image
   pub worker : w.worker ≡ v.worker

@@ -1,4 +1,4 @@
--- The rule of the table: where packages, lock states and passes are, what the words show and what the history tells, one small record each.
+-- The invariant of the table in parts: where packages, lock states and passes are, what words and history say.
 use Rattle.std.specs.Prelude.{◌≡◌, ◌≢◌, ◌⊎◌, ℕ, ◌+◌, ◌-◌, ◌<◌, ◌≤◌, Bool, true, false, List, [], length, replicate, slice_index, Option, Some, None}
 use mathlib.Core.Option.{some, none}
 use mathlib.Core.Option as maybe
@@ -44,7 +44,7 @@ starting k = clean k.image.value (threads k) (locks k) (k.workers - 1) true
 abbrev pub Homes : Type 0
 Homes = List (maybe.Option (Option Cargo))
 
--- the pass has the package of thread t out, which is p as the pass keeps it
+-- the pass has the package of thread t out, which it records as p
 abbrev pub Has : Knows → ℕ → PackageView → Type 0
 Has v t p = get_elem? v.packages t ≡ some (Some p)
 
@@ -59,7 +59,7 @@ locked_in q i = lock_in q.context.locks i
 abbrev pub IsOwn : PackageView → ℕ → Type 0
 IsOwn q i = (has q.context.guest.held i ≡ true) ⊎ (granted_lock q.granted ≡ Some i)
 
--- a package may lie in its slot so while its thread's word is this
+-- a package may be in its slot in this state while its thread's word is this
 pub record IsInOrder (word : ℕ) (q : PackageView) : Type 0 where
   pub ended : word ≡ DONE → (is_running q.context.guest.status ≡ false) × ((i : ℕ) → locked_in q i ≡ None)
   pub runs : word ≢ DONE → is_running q.context.guest.status ≡ true
@@ -145,7 +145,7 @@ pub record AreLocksPlaced (n m : ℕ) (segments : List LockView) (ws : List ℕ)
   pub owned : (id : ℕ) (v : Knows) (i : ℕ) (l : LockView) → get_elem? vs id ≡ some v → HasLock v i l → (spot i ≡ out id) × (get_elem? segments i ≡ some l)
   pub packed : (t : ℕ) (q : PackageView) (i : ℕ) (l : LockView) → t < n → get_elem? hs t ≡ some (some (Some (Package q))) → locked_in q i ≡ Some l → (spot i ≡ inside t) × (get_elem? segments i ≡ some (kept l))
 
--- what a pass says of the history and of the words holds
+-- what a pass records of the history and of the words is true
 pub record IsPass (image : Shown) (workers : ℕ) (h : List Block) (ws : List ℕ) (v : Knows) : Type 0 where
   pub of : v.spent ≡ false → v.image ≡ image
   pub worker : v.worker < workers
@@ -157,7 +157,7 @@ pub record IsPass (image : Shown) (workers : ℕ) (h : List Block) (ws : List �
   pub pinned : (t : ℕ) → get_elem? v.pinned t ≡ some true → slice_index ws STOP ≡ 1
   pub sized : v.spent ≡ false → length v.pinned ≡ length image.entries
 
--- the stop word is 1 only where some pass made a stop
+-- the stop word is 1 only if some pass made a stop
 pub record HasStopped (vs : List Knows) : Type 0 where
   pub id : ℕ
   pub view : Knows
@@ -165,7 +165,7 @@ pub record HasStopped (vs : List Knows) : Type 0 where
   pub place : ℕ
   pub call : get_elem? view.calls place ≡ some Stop
 
--- the passes that are live have workers of their own, which no list of joined ones has
+-- live passes have different workers, which no list of joined ones has
 pub record AreApart (vs : List Knows) : Type 0 where
   pub apart : (i j : ℕ) (v w : Knows) → get_elem? vs i ≡ some v → get_elem? vs j ≡ some w → v.spent ≡ false → w.spent ≡ false → v.worker ≡ w.worker → i ≡ j
   pub joined : (i j e : ℕ) (v w : Knows) → get_elem? vs i ≡ some v → get_elem? vs j ≡ some w → w.spent ≡ false → ¬ (get_elem? v.joined e ≡ some w.worker)
@@ -178,9 +178,9 @@ pub record AreApart (vs : List Knows) : Type 0 where
 abbrev pub last_by : Knows → Option Block
 last_by v = last_of (of_worker v.sealed v.worker)
 
--- what the passes' lists and numbers say of the history: the last block that a live pass lists of its worker is that worker's
--- last; a pass lists only blocks of its worker and of those that were joined into it; and each block is of the pass that makes
--- the others, or of one that it has made
+-- what the passes' lists and numbers say of the history: the last block that a live pass lists of
+-- its worker is that worker's last; a pass lists only blocks of its worker and of those that were
+-- joined into it; and each block is of the pass that makes the others, or of one that it has made
 pub record AreListed (h : List Block) (vs : List Knows) : Type 0 where
   pub newest : (id : ℕ) (v : Knows) → get_elem? vs id ≡ some v → v.spent ≡ false → last_of (of_worker h v.worker) ≡ last_by v
   pub owned : (id i : ℕ) (v : Knows) (b : Block) → get_elem? vs id ≡ some v → get_elem? v.sealed i ≡ some b → (b.worker ≡ v.worker) ⊎ ((e : ℕ) × (get_elem? v.joined e ≡ some b.worker))
@@ -193,9 +193,9 @@ pub record IsInLimits (k : HallTerms) : Type 0 where
   pub fuel : k.fuel ≤ MAX_FUEL
   pub workers : (0 < k.workers) × (k.workers ≤ MAX_WORKERS)
 
--- the history, and each package and lock as of its last commit, with strict journals. Each worker begins an Adopted section
--- directly behind its block that unlocked the lock, and a cut parts no thread from its worker. No word, slot or pass occurs in
--- it, and only a commit changes it
+-- the history, and each package and lock as of its last commit, with strict journals. Each worker
+-- begins an Adopted section right after its block that unlocked the lock, and a cut separates no
+-- thread from its worker. It has no word, slot or pass, and only a commit changes it
 pub record Told (k : HallTerms) : Type 0 where
   pub history : List Block
   pub places : List PackageView

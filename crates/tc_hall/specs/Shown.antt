@@ -1,4 +1,4 @@
--- The outline that the words, the slots and the views of a hall show.
+-- The outline that the words, the slots and the passes of a hall represent.
 use Rattle.std.specs.Prelude.{◌≡◌, ℕ, ◌+◌, ◌-◌, ◌<◌, nat_lt, if◌then◌else◌, List, slice_index, Option, Some}
 use Rattle.std.specs.Option.{option_map}
 use mathlib.Core.Option.{some}
@@ -29,7 +29,7 @@ as_place put.Parked = Parked
 as_place put.Done = Done
 as_place (put.Waiting lock) = Waiting lock
 
--- the place that a thread's word shows
+-- the place that a thread's word stands for
 unfoldable pub place_shown : ℕ → ThreadPlace
 place_shown word = if nat_lt word OUT then as_place (place_of word) else At (word - OUT)
 
@@ -37,12 +37,12 @@ place_shown word = if nat_lt word OUT then as_place (place_of word) else At (wor
 abbrev pub last_end : List Block → Option End
 last_end log = option_map (λ (b : Block). b.end) (last_of log)
 
--- p is the package of thread t in its slot, or as a pass keeps it
+-- p is the package of thread t in its slot, or as a pass records it
 pub data PackageAt (s : Hall) (t : ℕ) (p : PackageView) : Type 0 where
   in_slot : get_elem? s.homes t ≡ some (some (Some (Package p))) → PackageAt s t p
   with_pass : (id : ℕ) (v : Knows) → get_elem? s.views id ≡ some v → Has v t p → PackageAt s t p
 
--- l is the state of lock i in its slot, in a package that is in its slot, or as a pass keeps it; and so the lock lies there
+-- l is the state of lock i in its slot, in a package that is in its slot, or as a pass records it; y says where it is
 pub data LockAt (k : HallTerms) (s : Hall) (i : ℕ) (l : LockView) (y : Lying) : Type 0 where
   lock_in_slot : get_elem? s.homes (threads k + i) ≡ some (some (Some (Lock l))) → y ≡ at_home → LockAt k s i l y
   lock_in_package : (t : ℕ) (q : PackageView) → t < threads k → get_elem? s.homes t ≡ some (some (Some (Package q))) → locked_in q i ≡ Some l → y ≡ packed t → LockAt k s i l y
@@ -56,7 +56,7 @@ pub record ShowsLock (o : Outline) (i : ℕ) (l : LockView) (y : Lying) : Type 0
   pub lock : o.lock i ≡ lock_of l
   pub lies : o.lies i ≡ y
 
--- the hall shows this outline, as far as its threads and locks go
+-- abstraction relation: the hall represents this outline, as far as its threads and locks go
 pub record IsShown (k : HallTerms) (s : Hall) (o : Outline) : Type 0 where
   pub place : (t : ℕ) → t < threads k → o.place t ≡ place_shown (slice_index s.words (slot_word t))
   pub thread : (t : ℕ) (p : PackageView) → t < threads k → PackageAt s t p → ShowsThread o t p

@@ -1,4 +1,4 @@
--- What each step tells, and its effect on the view of the pass.
+-- What each step says, and its effect on the state of the pass.
 use Rattle.std.specs.Prelude.{◌≡◌, ◌≢◌, ◌⊎◌, ℕ, ◌+◌, ◌<◌, Bool, true, false, List, [], ◌∷◌, ◌++◌, length, slice_set, map, filter, is_some, Option, Some, None}
 use Rattle.std.specs.List.{range_with_len}
 use Rattle.std.specs.Option.{option_map}
@@ -42,7 +42,7 @@ Sat = Me (Option Cargo) Knows
 abbrev pub IsSamePass : PassView → PassView → Type 0
 IsSamePass p q = (q.table ≡ p.table) × (q.seat ≡ p.seat)
 
--- the effects on the view: of `claim` and `adopt`
+-- the effects on the pass: of `claim` and `adopt`
 
 -- what is out after these locks came or changed
 abbrev pub or_kept : Option LockView → Option LockView → Option LockView
@@ -80,7 +80,7 @@ remove_all (x ∷ xs) (o ∷ slots) = or_none x o ∷ remove_all xs slots
 abbrev pub numbers : List (Option LockView) → List ℕ
 numbers slots = filter (λ i. is_some (lock_in slots i)) (range_with_len 0 (length slots))
 
--- the lock that is granted, with its kind and the number of its turn
+-- the lock that is granted, with its kind and the number of its queue turn
 abbrev pub given_of : PackageView → Option Given
 given_of q = option_map (λ (g : Grant). record { lock = g.lock; kind = g.kind; number = number_in q g.lock }) q.granted
 
@@ -136,7 +136,7 @@ gone = record { image = record { ranges = []; entries = []; guards = [] }; worke
 
 -- the clauses of the calls
 
--- the package q of thread t was taken out of its slot, where its thread's word was this
+-- the package q of thread t was taken out of its slot; its thread's word was this
 pub record Gets (word t : ℕ) (q : PackageView) (v w : Knows) : Type 0 where
   pub now : w ≡ after_claim v q
   pub thread : q.context.thread ≡ t
@@ -144,12 +144,12 @@ pub record Gets (word t : ℕ) (q : PackageView) (v w : Knows) : Type 0 where
   pub settled : q.pending ≡ None
   pub order : IsInOrder word q
   pub fits : grants_adopted q.granted ≡ false → (worker : ℕ) → fits_of q worker ≡ true
-  -- one that is pinned to one worker is noted as such
+  -- one that is pinned to one worker is recorded as such
   pub pinned : is_pinned q ≡ true → get_elem? w.pinned t ≡ some true
   pub came : CameOut (Pack q) v w
   pub called : Called [] v w
 
--- the word was found to be another than wanted
+-- the word had another value than expected
 abbrev pub Missed : ℕ → ℕ → ℕ → Knows → Knows → Type 0
 Missed wanted word found v w = (found ≢ wanted) × (w ≡ after_miss v word found)
 
@@ -172,8 +172,8 @@ pub record Gave (place : Place) (q : PackageView) (v w : Knows) : Type 0 where
   pub rest : outs w ≡ erase (outs v) (Pack q)
   pub called : Called (put_call q place ∷ []) v w
 
--- the package and the lock states in it are as a history leaves them, which tells a run, obeys the batch limit, and has each
--- block that the pass has sealed
+-- the package and the lock states in it are as a history leaves them that is a trace, obeys the
+-- batch limit, and has each block that the pass has sealed
 pub record IsAsLeft (k : HallTerms) (v : Knows) (q : PackageView) : Type 0 where
   pub history : List Block
   pub tells : Tells k.image.value k.fuel history (end_after k.image.value k.fuel history)
@@ -210,13 +210,13 @@ abbrev pub IsGrantedBehind : Option Block → Option Grant → Type 0
 IsGrantedBehind last None = Unit {0}
 IsGrantedBehind last (Some g) = is_adopted g.kind ≡ true → has_unlocked g.lock last ≡ true
 
--- the pending block, if it began an Adopted section of a lock, comes directly behind a block of the pass's worker that unlocked
--- the lock
+-- the pending block, if it began an Adopted section of a lock, comes right after a block of the
+-- pass's worker that unlocked the lock
 abbrev pub HandsPending : Knows → PackageView → Type 0
 HandsPending v q = (b : Block) → q.pending ≡ Some b → IsHandedOver (last_by v) b
 
--- a block made the package of one that the pass has out, the batch rule allows it the pass's worker, and it comes behind the
--- block with which that worker handed the lock over; where the worker's last block or the thread's was cut, it goes on from there
+-- a block made the package of one that the pass has out, the batch rule allows it the pass's worker, and it
+-- follows the block by which that worker handed the lock over; after a cut, worker and thread go on together
 pub record Seals (v : Knows) (q : PackageView) : Type 0 where
   pub before : PackageView
   pub has : Has v q.context.thread (bare before)
@@ -231,7 +231,7 @@ pub record DidSeal (q : PackageView) (n : ℕ) (v w : Knows) : Type 0 where
   pub block : Block
   pub pending : q.pending ≡ Some block
   pub now : w ≡ after_seal v (sealed_block n v.worker block) (with_seal n v.worker q)
-  -- it is out as it is then, and nothing else that is out changed
+  -- it is out in that state, and nothing else that is out changed
   pub out : IsOut (outs w) (Pack (with_seal n v.worker q))
   pub rest : erase (outs w) (Pack (with_seal n v.worker q)) ≡ erase (outs v) (Pack q)
   pub after_own : (i : ℕ) (b : Block) → get_elem? v.sealed i ≡ some b → b.stamp < n
@@ -239,10 +239,10 @@ pub record DidSeal (q : PackageView) (n : ℕ) (v w : Knows) : Type 0 where
   pub after_log : (i : ℕ) (b : Block) → get_elem? (with_seal n v.worker q).log i ≡ some b → (b.stamp < n) ⊎ (b ≡ sealed_block n v.worker block)
   pub after_locks : (k : ℕ) (l : LockView) (i : ℕ) (b : Block) → locked_in (with_seal n v.worker q) k ≡ Some l → get_elem? (blocks_of l) i ≡ some b → (b.stamp < n) ⊎ (b ≡ sealed_block n v.worker block)
 
--- what each step on the table tells
+-- what each step on the table says
 
--- the package of thread t was taken, and the pass has its slot in hand; in a hall of these terms, where they were picked, it is
--- as the history leaves it
+-- the package of thread t was taken, and the pass has its slot; in a hall of these terms, if they
+-- were given, it is as the history leaves it
 abbrev pub Got : Option HallTerms → ℕ → ℕ → Sat → Sat → Type 0
 Got o word t m m' = (q : PackageView) × (w : Knows) × Gets word t q m.0 w × (m' ≡ (record w { open_slot = Some t }, (t, Some (Package q)) ∷ m.1)) × ((k : HallTerms) → o ≡ Some k → IsAsLeft k m.0 q)
 
@@ -262,7 +262,7 @@ laid st m r m' = m' ≡ (record m.0 { open_slot = None }, rest m.1)
 abbrev pub reached : At → Sat → ℕ → Sat → Type 0
 reached st m r m' = (slot : ℕ) → st.word ≡ slot_word slot → m' ≡ (record m.0 { open_slot = Some slot }, (slot, None) ∷ m.1)
 
--- the package was put, in a hall of these terms, where they were picked
+-- the package was put, in a hall of these terms, if they were given
 abbrev pub put_as : Option HallTerms → At → Sat → ℕ → Sat → Type 0
 put_as o st m r m' = (t : ℕ) (q : PackageView) → m.1 ≡ (t, Some (Package q)) ∷ [] → (m' ≡ (record (after_put m.0 q (place_of st.first)) { open_slot = None }, [])) × ((k : HallTerms) → o ≡ Some k → IsAsLeft k m.0 q)
 
@@ -279,11 +279,11 @@ stopping st m r m' = m' ≡ (with_call m.0 Stop, m.1)
 abbrev pub saw_stopped : At → Sat → ℕ → Sat → Type 0
 saw_stopped st m r m' = (m' ≡ (with_call m.0 (Stopped r), m.1)) × ((t : ℕ) → get_elem? m.0.pinned t ≡ some true → r ≡ 1)
 
--- the package whose block is sealed, where one was picked
+-- the package whose block is sealed, if one was given
 abbrev pub sealed_as : Option PackageView → At → Sat → ℕ → Sat → Type 0
 sealed_as o st m r m' = (q : PackageView) → o ≡ Some q → DidSeal q r m.0 m'.0 × (m'.1 ≡ m.1)
 
--- at the making and the end
+-- creation and end
 
 -- the pass of a worker, which has done nothing
 pub record IsNew (image : Shown) (n m worker : ℕ) (v : Knows) : Type 0 where
@@ -295,7 +295,7 @@ pub record IsFree (v : Knows) : Type 0 where
   pub packages : (t : ℕ) (p : PackageView) → ¬ Has v t p
   pub locks : (i : ℕ) (l : LockView) → ¬ HasLock v i l
 
--- the pass has seen each thread at 2
+-- the pass has read 2, DONE, of each thread
 abbrev pub HasSeenAll : ℕ → Knows → Type 0
 HasSeenAll n v = (t : ℕ) → t < n → (i : ℕ) × (get_elem? v.calls i ≡ some (Look t DONE))
 
@@ -309,7 +309,7 @@ pub record IsLast (hall : HallView) (p : PassView) : Type 0 where
   pub all : HasAll hall.terms.workers p.knows
   pub free : IsFree p.knows
 
--- the packages and lock states in order, at the end, where this was the last pass
+-- the packages and lock states in order, at the end, if this was the last pass
 pub record IsEnd (k : HallTerms) (v : Knows) (qs : List PackageView) (ls : List LockView) : Type 0 where
   pub history : List Block
   pub law : Lawful k.image.value k.fuel k.limit history (map bare qs) (map kept ls)
@@ -320,7 +320,7 @@ pub record IsEnd (k : HallTerms) (v : Knows) (qs : List PackageView) (ls : List 
   pub sealed : (i : ℕ) (b : Block) → get_elem? v.sealed i ≡ some b → get_elem? history b.stamp ≡ some b
   pub ended : (t : ℕ) (q : PackageView) → get_elem? qs t ≡ some q → (is_running q.context.guest.status ≡ false) × ((i : ℕ) → locked_in q i ≡ None)
 
--- what lies in a slot
+-- what is in a slot
 abbrev pub IsPackage : Option Cargo → Type 0
 IsPackage x = (q : PackageView) × (x ≡ Some (Package q))
 
@@ -333,7 +333,7 @@ HoldsLock x l = x ≡ Some (Lock l)
 abbrev pub IsLock : Option Cargo → Type 0
 IsLock x = (l : LockView) × (x ≡ Some (Lock l))
 
--- the stop word was seen, as 1 or not; it was 1 where the pass took a package that is pinned to one worker
+-- the stop word was read, as 1 or not; it was 1 if the pass took a package that is pinned to one worker
 pub record SawStopped (yes : Bool) (v w : Knows) : Type 0 where
   pub word : ℕ
   pub now : w ≡ after_stopped v word

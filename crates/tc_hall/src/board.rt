@@ -1,12 +1,12 @@
-//! The table that the workers share, and what a pass knows.
+//! The table that the workers share, and the ghost state of a pass.
 //!
 //! Slot t is for the package of thread t, and slot threads + i for the state of lock i. One word is
-//! the clock, one the stop, and each slot has a word: that of thread t shows where the thread is,
-//! and that of lock i whether the lock is out. Each slot stands in a pair of cache lines of its own,
-//! since processors fetch lines in pairs, and each of these words in two pairs, since they fetch the
-//! next pair too where words are used in a row: so workers that write different words or fill
-//! different slots don't take lines from one another. The words between them are 0, and no step is
-//! on them.
+//! the clock, one the stop flag, and each slot has a word: that of thread t says where the thread
+//! is, that of lock i whether the lock is out. Each slot has a pair of cache lines of its own,
+//! since processors fetch lines in pairs. Each of these words has two pairs, since processors also
+//! prefetch the next pair when words are used in a row. So workers that use different words or
+//! slots don't share cache lines (no false sharing). The words in between are 0, and no step is on
+//! them.
 
 ghost use Rattle.std.specs.Prelude.{◌≡◌, None, Some};
 ghost use Rattle.tc_hall.specs.Places.{slot_word};
@@ -23,13 +23,13 @@ use tc_elf::image::Image;
 use tc_journal::block::{Block, Kind};
 use tc_segment::state::LockState;
 
-/// The words of 8 bytes in two pairs of cache lines of 64.
+/// The number of 8-byte words in two pairs of cache lines of 64 bytes.
 pub const LINE: usize = 32;
 
 /// The word of the clock.
 pub const CLOCK: usize = 0;
 
-/// The word of the stop.
+/// The word of the stop flag.
 pub const STOP: usize = LINE;
 
 /// The word of a slot. That of the slot after the last is the number of words.
@@ -39,7 +39,7 @@ pub(crate) fn word_of(slot: u32) -> usize
     LINE * (slot as usize + 2)
 }
 
-/// What a hall is made with.
+/// The parameters of a hall.
 #[derive(Drop)]
 pub struct HallTerms {
     /// The guest that it runs.
@@ -61,7 +61,7 @@ pub enum Cargo {
     Lock(LockState),
 }
 
-/// A lock that was granted in a package that is put. No value of it is made.
+/// A lock that was granted in a package that is put. A ghost type: no value of it exists.
 #[derive(Clone, Copy)]
 pub struct Given {
     /// The number of the lock.
@@ -72,22 +72,22 @@ pub struct Given {
     pub number: u64,
 }
 
-/// A call that a pass made. No value of it is made.
+/// A call that a pass made. A ghost type: no value of it exists.
 pub enum PassCall {
-    /// The thread, its place, the numbers of the locks in its package, what was granted, and how many
-    /// turns of lines the package has taken.
+    /// The thread, its place, the numbers of the locks in its package, what was granted, and how
+    /// many queue turns the package has taken.
     Put(u32, Place, LinkedList<u32>, Option<Given>, u64),
     /// The lock.
     Free(u32),
-    /// The thread and the word that was seen.
+    /// The thread and the word that was read.
     Look(u32, u64),
-    /// A stop.
+    /// The stop flag was set.
     Stop,
-    /// The word that was seen.
+    /// The word that was read.
     Stopped(u64),
 }
 
-/// A word that was found to be another than the step asked for.
+/// A word that had another value than the step expected.
 #[derive(Clone, Copy)]
 pub struct Miss {
     /// The number of the word in the table.
@@ -96,7 +96,7 @@ pub struct Miss {
     pub found: u64,
 }
 
-/// What a pass knows. No value of it is made.
+/// What contracts know of a pass. No value of this type exists.
 pub struct Knows {
     /// The image that the hall runs.
     pub image: Image,
@@ -110,13 +110,13 @@ pub struct Knows {
     pub spent: bool,
     /// The workers of the passes that were joined into this one.
     pub joined: LinkedList<u32>,
-    /// For each thread its package without its locks, as of its last commit, where the pass has it
+    /// For each thread its package without its locks, as of its last commit, if the pass has it
     /// out.
     pub packages: LinkedList<Option<Package>>,
-    /// For each thread whether its package was pinned to one worker when the pass last took it: with a
-    /// lock that was granted as Adopted, or a last block that was cut.
+    /// For each thread whether its package was pinned to one worker when the pass last took it: a
+    /// lock was granted to it as Adopted, or its last block was cut.
     pub pinned: LinkedList<bool>,
-    /// For each lock its state, as of its last commit, where the pass has it out.
+    /// For each lock its state, as of its last commit, if the pass has it out.
     pub locks: LinkedList<Option<LockState>>,
     /// The slot that the pass holds, inside a call.
     pub open_slot: Option<u32>,
@@ -184,7 +184,7 @@ impl Slot {
     }
 }
 
-/// The rule of the table.
+/// The invariant of the table.
 pub struct Ruled;
 
 impl TableRule<Slot, Knows, HallTerms> for Ruled {
@@ -196,8 +196,8 @@ impl TableRule<Slot, Knows, HallTerms> for Ruled {
     ghost first = { starting };
 }
 
-/// The table of a hall.
+/// The type of a hall's table.
 pub type HallTable = Table<Slot, Knows, HallTerms, Ruled, Global>;
 
-/// The seat of a pass.
+/// The table's handle of a pass.
 pub type Sitting = Seat<Slot, Knows>;

@@ -1,4 +1,4 @@
-//! What a hall had at its end.
+//! The packages and lock states of a hall at its end.
 
 ghost use Rattle.std.specs.Prelude.{◌≡◌};
 
@@ -36,8 +36,8 @@ impl Closed {
         self.locks.as_slice()
     }
 
-    /// The packages and the lock states, as `packages` and `locks` lend them, each to be dropped on
-    /// its own.
+    /// The packages and the lock states, as `packages` and `locks` lend them. The caller owns
+    /// them.
     pub fn into_parts(self) -> (Vec<Package>, Vec<LockState>)
         ensures packages { result.0.items ≡ self.packages }
         ensures locks { result.1.items ≡ self.locks }

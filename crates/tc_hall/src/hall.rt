@@ -30,35 +30,35 @@ use tc_exec::code::Code;
 use tc_segment::state::LockState;
 use tc_turn::memory::Memory;
 
-/// What `claim` answers where the thread was not where it is claimed from: the word that was seen.
+/// What `claim` answers if the thread was not where it is claimed from: the word that was read.
 #[derive(Clone, Copy, PartialEq, Eq, Debug)]
 pub struct NotReady(
-    /// The word that was seen.
+    /// The word that was read.
     pub u64,
 );
 
-/// What `adopt` answers where the thread was not waiting for the lock: the word that was seen.
+/// What `adopt` answers if the thread was not waiting for the lock: the word that was read.
 #[derive(Clone, Copy, PartialEq, Eq, Debug)]
 pub struct NotWaiting(
-    /// The word that was seen.
+    /// The word that was read.
     pub u64,
 );
 
-/// What `take` answers where the lock was not home: the word that was seen.
+/// What `take` answers if the lock was out: the word that was read.
 #[derive(Clone, Copy, PartialEq, Eq, Debug)]
 pub struct LockOut(
-    /// The word that was seen.
+    /// The word that was read.
     pub u64,
 );
 
-/// A table of packages and lock states, which passes take out and put back. The workers share it:
-/// each calls it with its own pass. After `new` no call takes memory, and none waits for another.
+/// A table of packages and lock states, which workers take out and put back. The workers share it; each
+/// calls it with its own pass (access token). After `new` no call allocates, and none waits for another.
 #[derive(Drop)]
 pub struct Hall {
     board: HallTable,
     threads: u32,
     locks: u32,
-    // Room for what is taken out at the end.
+    // Capacity for what is taken out at the end.
     packages: Vec<Package>,
     lock_states: Vec<LockState>,
 }
@@ -110,7 +110,7 @@ fn lock_of(cargo: Option<Cargo>) -> LockState
 }
 
 /// The packages of all threads, ready, and then the states of all locks. The packages share the
-/// code, which is decoded here, and the memory with which they begin.
+/// code, which is decoded here, and their initial memory.
 fn stock(alloc: Global, image: &Image, fuel: u32, limit: u32) -> Result<Vec<Slot>, AllocError>
     requires { (1 ≤ fuel) × (fuel ≤ MAX_FUEL) × (limit ≤ MAX_BATCH) }
     ensures { IfOk result (λ v. AreStocked image.now (length image.now.entries)
@@ -134,8 +134,8 @@ fn stock(alloc: Global, image: &Image, fuel: u32, limit: u32) -> Result<Vec<Slot
 
 impl Hall {
     /// A hall of so many workers, and a pass for each of them. Each thread is at its start and
-    /// ready, and its package and the states of all locks are home. All memory that the hall ever
-    /// needs is taken here, so that a refusal is want of memory alone.
+    /// ready; its package and the states of all locks are in their slots. All memory that the hall
+    /// ever needs is allocated here, so running out of memory is the only error.
     pub fn new(
         alloc: Global,
         image: &Image,
@@ -188,8 +188,8 @@ impl Hall {
         Ok((hall, passes))
     }
 
-    /// Takes in another pass of the hall, which ends with it: its blocks and calls follow those of
-    /// this pass, and its worker number counts as joined.
+    /// Joins another pass of the hall into this one and ends it: its blocks and calls follow those
+    /// of this pass, and its worker number counts as joined.
     pub fn join(&self, pass: &mut Pass, other: Pass)
         requires own { (pass.old.table ≡ self.now.table) × (other.table ≡ self.now.table) }
         requires free { IsFree other.knows }
@@ -200,9 +200,9 @@ impl Hall {
         self.board.shared.join_seat::<Merge>(&mut pass.seat, seat);
     }
 
-    /// Ends the hall. It answers all packages and all lock states, in order of number, which are as
-    /// the history of all sealed blocks leaves them: the stamps in the logs are the numbers from 0
-    /// on, each once. Each lock state is strict. It goes over the slots, and takes no memory.
+    /// Ends the hall. It returns all packages and all lock states, in order of number, as the
+    /// history of all sealed blocks leaves them. The stamps in the logs are 0, 1, 2 and so on, each
+    /// once. Each lock state is strict. It goes over the slots, and allocates nothing.
     pub fn close(self, pass: Pass) -> Closed
         requires last { IsLast self pass }
         requires done { HasSeenAll (threads self.terms) pass.knows }
@@ -264,10 +264,10 @@ impl Hall {
     }
 
     /// Takes the package of a ready or a parked thread, by one compare-and-swap on the thread's
-    /// word, which shows the pass's worker afterwards. It refuses exactly where the word was
-    /// another, and nothing changes then but that the pass has missed. It does not try again.
+    /// word, which then has the pass's worker. It fails if and only if the word was another; then
+    /// nothing changes but that the pass records the miss. It does not retry.
     ///
-    /// The package is as it lay in its slot: the pass notes it among those that it has claimed.
+    /// The package is as it was stored: the pass records it among those that it has claimed.
     pub fn claim(&self, pass: &mut Pass, t: u32, from: Origin) -> Result<Package, NotReady>
         requires own { pass.old.table ≡ self.now.table }
         requires thread { t < threads self.now.terms }
@@ -284,9 +284,9 @@ impl Hall {
     }
 
     /// Takes the package of a thread that waits for the lock, by one compare-and-swap on the
-    /// thread's word, which shows the pass's worker afterwards. The lock's state is not in the
-    /// package, and may be granted to it. It refuses exactly where the word was another, and does
-    /// not try again.
+    /// thread's word, which then has the pass's worker. The lock's state is not in the package,
+    /// and may be granted to it. It fails if and only if the word was another, and does not
+    /// retry.
     pub fn adopt(&self, pass: &mut Pass, t: u32, lock: u32) -> Result<Package, NotWaiting>
         requires own { pass.old.table ≡ self.now.table }
         requires thread { t < threads self.now.terms }
@@ -331,9 +331,9 @@ impl Hall {
     }
 
     /// Puts a package that the pass has out into its thread's slot, with all locks that are in it.
-    /// Its step is the store of the place on the thread's word, once the slot is filled: from then
-    /// on any pass may take it there. The package is as the history of the blocks that were sealed
-    /// by then leaves its thread.
+    /// Its linearization point is the store of the place to the thread's word, after the slot is
+    /// filled: from then on any pass may take it. The package is as the history of the blocks
+    /// sealed by then leaves its thread.
     pub fn put(&self, pass: &mut Pass, package: Package, place: Place)
         requires own { pass.old.table ≡ self.now.table }
         requires thread { «package».context.thread < threads self.now.terms }
@@ -370,8 +370,8 @@ impl Hall {
         Ok(lock_of(cargo))
     }
 
-    /// Takes the state of a lock that is home, by one compare-and-swap on the lock's word from 0 to
-    /// 1. It refuses exactly where the word was not 0, and does not try again.
+    /// Takes the state of a lock that is not out, by one compare-and-swap on the lock's word from 0
+    /// to 1. It fails if and only if the word was not 0, and does not retry.
     pub fn take(&self, pass: &mut Pass, lock: u32) -> Result<LockState, LockOut>
         requires own { pass.old.table ≡ self.now.table }
         requires lock { lock < locks self.now.terms }
@@ -385,8 +385,8 @@ impl Hall {
         self.take_as::<Brand>(pass, lock)
     }
 
-    /// Brings the state of a lock home. Its step is the store of 0 on the lock's word, once the
-    /// slot is filled: from then on any pass may take it.
+    /// Puts the state of a lock back into its slot. Its linearization point is the store of 0 to
+    /// the lock's word, after the slot is filled: from then on any pass may take it.
     pub fn free(&self, pass: &mut Pass, lock: LockState)
         requires own { pass.old.table ≡ self.now.table }
         requires lock { lock.number < locks self.now.terms }
@@ -405,9 +405,9 @@ impl Hall {
         words.store::<Free>(&mut pass.seat, word_of(place), 0);
     }
 
-    /// The word of a thread, by one load: [`READY`](crate::place::READY), `PARKED`, `DONE`, `WAITING`
-    /// and the lock's number, or `OUT` and the worker's number. The pass's list keeps what was
-    /// seen.
+    /// The word of a thread, by one load: [`READY`](crate::place::READY), `PARKED`, `DONE`,
+    /// `WAITING` and the lock's number, or `OUT` and the worker's number. The pass's list records
+    /// what was read.
     pub fn look(&self, pass: &mut Pass, t: u32) -> u64
         requires own { pass.old.table ≡ self.now.table }
         requires thread { t < threads self.now.terms }
@@ -418,7 +418,7 @@ impl Hall {
         words.load::<Look>(&mut pass.seat, word_of(t))
     }
 
-    /// Tells all workers to stop, by one store of 1 on the stop word, which no call takes back.
+    /// Asks all workers to stop, by one store of 1 to the stop word, which no call clears.
     pub fn stop(&self, pass: &mut Pass)
         requires own { pass.old.table ≡ self.now.table }
         ensures own { IsSamePass pass.old pass.new }
@@ -427,8 +427,8 @@ impl Hall {
         self.board.shared.store::<Stop>(&mut pass.seat, STOP, 1);
     }
 
-    /// Whether a stop was made, by one load of the stop word. It was, where the pass took a package
-    /// that is pinned to one worker, since such a package comes only from a stop.
+    /// Whether a stop was requested, by one load of the stop word. It was, if the pass took a
+    /// package that is pinned to one worker, since such a package comes only from a stop.
     pub fn stopped(&self, pass: &mut Pass) -> bool
         requires own { pass.old.table ≡ self.now.table }
         ensures own { IsSamePass pass.old pass.new }
@@ -452,8 +452,8 @@ impl Hall {
     }
 
     /// Seals the pending block of a package that the pass has out, by one fetch-and-add on the
-    /// clock. The number that was found is the block's stamp and the answer, and the pass's worker
-    /// is the block's.
+    /// clock. The old number is the block's stamp and the answer, and the pass's worker is the
+    /// block's.
     pub fn commit(&self, pass: &mut Pass, package: &mut Package) -> u64
         requires own { pass.old.table ≡ self.now.table }
         requires ready { Seals pass.old.knows «package».old }

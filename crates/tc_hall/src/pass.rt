@@ -1,12 +1,12 @@
-//! Passes: a worker's right to step.
+//! Passes: access tokens of workers.
 
 ghost use Rattle.std.specs.Prelude.{◌≡◌};
 
 use crate::board::Sitting;
 use std::marker::Model;
 
-/// A worker's right to step in one hall. A contract sees in it what it has out, the blocks that it
-/// sealed, and the list of its calls.
+/// A worker's access token for one hall. Contracts see what it has out, the blocks that it sealed,
+/// and the list of its calls.
 #[derive(Drop)]
 pub struct Pass {
     pub(crate) seat: Sitting,
@@ -28,7 +28,7 @@ impl Model for Pass {
 }
 
 impl Pass {
-    /// The number of its worker, which is its own among the passes of its hall.
+    /// The number of its worker, which no other pass of its hall has.
     pub fn worker(&self) -> u32
         ensures { result ≡ self.now.knows.worker }
     {

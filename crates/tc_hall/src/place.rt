@@ -1,4 +1,4 @@
-//! Where packages are put and from where they are claimed, and the words that show it.
+//! Where packages are put and from where they are claimed, and the words that say so.
 
 ghost use Rattle.std.specs.Prelude.{◌≡◌, ◌<◌};
 ghost use Rattle.tc_hall.specs.Places.{IsInRange, code_of, origin_code};
@@ -21,11 +21,11 @@ pub const OUT: u64 = 512;
 /// Where a package is put.
 #[derive(Clone, Copy, Debug, PartialEq, Eq)]
 pub enum Place {
-    /// For any worker to run on.
+    /// For any worker to continue.
     Ready,
     /// Asleep, until a worker claims it from here.
     Parked,
-    /// Its thread has ended. Nobody takes it any more.
+    /// Its thread has ended. Nobody takes it again.
     Done,
     /// Until the lock of that number is passed on to it.
     Waiting(u32),
@@ -47,7 +47,7 @@ impl Place {
 /// From where a package is claimed.
 #[derive(Clone, Copy, Debug, PartialEq, Eq)]
 pub enum Origin {
-    /// A thread that may run on.
+    /// A thread that can go on.
     Ready,
     /// A thread that sleeps.
     Parked,

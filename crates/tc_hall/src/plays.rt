@@ -1,4 +1,4 @@
-//! What each step on the table tells.
+//! What each step on the table says.
 ghost use Rattle.tc_hall.specs.Steps.{claimed, laid, reached, put_as, did_free, looked, stopping, saw_stopped, sealed_as, took_as, dealt, fresh, merged, gone};
 
 use crate::board::{Knows, Slot};
@@ -20,14 +20,14 @@ impl Play<Slot, Knows> for Lay {
     ghost then = { laid };
 }
 
-/// Takes the empty slot, to fill it.
+/// Takes the empty slot to fill it.
 pub(crate) struct Reach;
 
 impl Play<Slot, Knows> for Reach {
     ghost then = { reached };
 }
 
-/// The terms of the hall in which a package or a lock state is taken or put. Each call picks them.
+/// The parameters of the hall in which a package or a lock state is taken or put. Each call chooses them.
 pub trait Under {
     ghost use Rattle.std.specs.Prelude.{Option};
     ghost use Rattle.tc_hall.specs.declared.board.HallTerms.{HallTerms};
@@ -73,7 +73,7 @@ impl Play<Slot, Knows> for Stopped {
     ghost then = { saw_stopped };
 }
 
-/// The package whose block is sealed. Each call picks it.
+/// The package whose block is sealed. Each call chooses it.
 pub trait Picked {
     ghost use Rattle.std.specs.Prelude.{Option};
     ghost use Rattle.tc_context.specs.View.{PackageView};

@@ -1,32 +1,32 @@
-//! What the steps of a hall are to the pure machine.
+//! The hall simulates the abstract machine.
 
 ghost use Rattle.tc_hall.specs.Ties.{Ties};
 ghost use Rattle.tc_hall.specs.Order.{IsKept, HasOwnNotes, HasExactWords};
 ghost use Rattle.tc_hall.specs.Lift.{OpensShown, Lifts};
 
-/// In every state of a hall that meets its rule, each operation that may come there keeps the rule;
-/// and what it shows is events of the pure machine, or none. This holds of every hall, every pass,
-/// and every operation: what its events ask of places, of statuses and of the ends of blocks holds,
-/// and where they may come, the hall shows the machine after them.
+/// Simulation. In every state of a hall that meets its invariant, each operation that may come
+/// there preserves the invariant, and is events of the abstract machine, or none. This holds for
+/// every hall, pass and operation: what its events require of places, statuses and ends of blocks
+/// holds, and if they are enabled, the hall represents the machine after them.
 pub fn tie()
     ensures ties { Ties }
 {}
 
-/// What holds between any two operations of a hall, whatever their order: the rules of places, words
-/// and history; of each live pass that its lists are its operations in their order, with those of the
-/// passes that were joined into it, and no others; of each word that it is one of those that it may be.
+/// The invariant between any two operations of a hall, in whatever order: the rules of places,
+/// words and history; each live pass's lists are its operations in order, with those of the passes
+/// joined into it, and no others; each word has one of its possible values.
 pub fn order()
     ensures kept { IsKept }
     ensures parts { HasOwnNotes }
     ensures words { HasExactWords }
 {}
 
-/// Whole runs. A new hall shows the first state of the pure machine; and the operations of a hall
-/// in their order, with events by which threads enter and leave the lines put in between, are one
-/// list of events of the machine, each enabled when it comes, after which the hall shows the machine.
-/// Of what enables the events of an operation, the places of threads and locks, statuses, turns and
-/// the ends of blocks are concluded. What lines, grants and the batch rule have to say is asked,
-/// since it is no part of what a hall shows.
+/// Simulation of whole runs. A new hall represents the first state of the abstract machine. The
+/// operations of a hall in their order, with events inserted by which threads enter and leave
+/// queues, are a list of enabled events of the machine, after which the hall represents the
+/// machine. Of the enabling conditions, those on places of threads and locks, statuses, steps and
+/// ends of blocks are concluded. Those on queues, grants and the batch rule are hypotheses, since a
+/// hall does not represent them.
 pub fn lift()
     ensures opens { OpensShown }
     ensures lifts { Lifts }

@@ -74,7 +74,7 @@ fn miss_lock<R: Abort>(rt: &R, hall: &Hall, pass: &mut Pass)
     look_around(rt, hall, pass, [512, 0]);
 }
 
-/// What two passes see on a new hall, where the first of them has thread 0 and lock 0 out. What is
+/// What two passes see in a new hall while the first of them has thread 0 and lock 0 out. What is
 /// refused changes no word.
 fn see_words<R: Abort>(rt: &R, hall: &Hall, zero: &mut Pass, other: &mut Pass)
     requires two { threads hall.now.terms ≡ 2 }
@@ -117,7 +117,7 @@ fn words_are_seen(rt: HostRuntime) -> Result<(), Fail> {
     Ok(())
 }
 
-/// Claims thread 0, and answers the word that was seen where it was refused.
+/// Claims thread 0, and returns the word that was read if that failed.
 fn refused(hall: &Hall, mut pass: Pass) -> Option<u64>
     requires two { threads hall.now.terms ≡ 2 }
     requires own { pass.table ≡ hall.now.table }

@@ -1,13 +1,13 @@
--- Which calls of a source or a sink are made, as the relation of a single call tells them.
+-- Which calls of a source or a sink are made, given the relation of a single call.
 use Rattle.std.specs.Prelude.{◌≡◌, ℕ, zero, suc, ◌<◌, ◌≤◌, List, [], drop, length, Result, Ok, Err}
 use Rattle.tc_io.specs.declared.source.Failed.{Failed}
 
--- `gives s room result t`: a read of s with room for so many bytes may answer this and leave t
+-- `gives s room result t`: a read of s with room for so many bytes may return this and leave t
 module _ {S : Type 0} (gives : S → ℕ → Result ℕ Failed → S → Type 0) where
   abbrev pub Reads : S → S → Type 0
   Reads s t = (room : ℕ) × (result : Result ℕ Failed) × gives s room result t
 
-  -- so many reads, one after another
+  -- so many consecutive reads
   abbrev pub ReadTimes : ℕ → S → S → Type 0
   ReadTimes zero s t = t ≡ s
   ReadTimes (suc n) s t = (m : S) × ReadTimes n s m × Reads m t
@@ -16,11 +16,11 @@ module _ {S : Type 0} (gives : S → ℕ → Result ℕ Failed → S → Type 0)
   abbrev pub ReadsWithin : ℕ → S → S → Type 0
   ReadsWithin most s t = (n : ℕ) × (n ≤ most) × ReadTimes n s t
 
-  -- at most so many reads, and one behind them that fails
+  -- at most so many reads, and one after them that fails
   abbrev pub ReadsTillFault : ℕ → S → S → Type 0
   ReadsTillFault most s t = (m : S) × (room : ℕ) × (e : Failed) × ReadsWithin most s m × gives m room (Err e) t
 
--- `gives k piece result l`: a write of the piece to k may answer this and leave l
+-- `gives k piece result l`: a write of the piece to k may return this and leave l
 module _ {K : Type 0} (gives : K → List ℕ → Result ℕ Failed → K → Type 0) where
   -- the writes of these bytes: each is given all that are left, and none is made once none is left
   pub data Writes : List ℕ → K → Result (Unit {0}) Failed → K → Type 0 where

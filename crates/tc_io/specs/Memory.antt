@@ -38,7 +38,7 @@ after_read s room =
     then record s { calls = risen s.calls; faults = risen s.faults }
     else record s { at = s.at + given s room; calls = risen s.calls }
 
--- a read into a buffer of this length fails where its number is chosen, and else gives what it can
+-- a read into a buffer of this length fails if its number is chosen, and otherwise gives what it can
 pub record Reads (s : InMemory) (room : ℕ) (result : Result ℕ Failed) (now : InMemory) : Type 0 where
   pub fails : IsErr result ↔ IsTrue (is_chosen s.fail s.calls)
   pub count : IfOk result (λ n. n ≡ given s room)
@@ -59,7 +59,7 @@ after_write k piece =
     then record k { calls = risen k.calls; faults = risen k.faults }
     else record k { bytes = k.bytes ++ take (accepted k (length piece)) piece; calls = risen k.calls }
 
--- a write of this piece fails where it is refused, and else takes what it can
+-- a write of this piece fails if it is refused, and otherwise takes what it can
 pub record Writes (k : Buffer) (piece : List ℕ) (result : Result ℕ Failed) (now : Buffer) : Type 0 where
   pub fails : IsErr result ↔ IsTrue (refuses k (length piece))
   pub count : IfOk result (λ n. n ≡ accepted k (length piece))

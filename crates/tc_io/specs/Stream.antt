@@ -1,7 +1,7 @@
--- A source or a sink from outside.
+-- What contracts see of a source or a sink.
 use Rattle.std.specs.Prelude.{ℕ, List, Option}
 
--- the bytes that a source still has, or that a sink has taken, where it tells them; and how often it failed
+-- the bytes that a source still has, or that a sink has taken, if the contract knows them; and the number of faults
 pub record Stream : Type 0 where
   pub bytes : Option (List ℕ)
   pub faults : ℕ

@@ -1,4 +1,4 @@
--- What was taken from a source, or given to a sink, by calls that stopped.
+-- What was read from a source, or written to a sink, by calls that stopped.
 use Rattle.std.specs.Prelude.{◌≡◌, ℕ, ◌<◌, ◌≤◌, List, length, take}
 use Rattle.std.specs.Io.KnownBytes.{Appends, Consumes, IsAtEnd}
 use Rattle.tc_io.specs.Stream.{Stream}
@@ -34,7 +34,7 @@ pub record Gives (before now : Stream) (bytes : List ℕ) : Type 0 where
   pub given : Appends before.bytes now.bytes bytes
   pub quiet : NoneFailed before now
 
--- a front of the bytes was given, and then a call failed
+-- a prefix of the bytes was written, and then a call failed
 pub record FailsAmid (before now : Stream) (bytes : List ℕ) : Type 0 where
   pub count : ℕ
   pub short : count < length bytes

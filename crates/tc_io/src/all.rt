@@ -9,6 +9,7 @@ use crate::source::{Failed, Sink, Source};
 use std::alloc::{AllocError, Global};
 
 /// The greatest limit that a caller of `read_all` may set, in bytes.
+/// This crate knows neither guest files nor histories: tc_main proves that the greatest of both fit.
 pub const LIMIT: usize = 269_484_032;
 
 /// Why not all bytes were read.
@@ -38,9 +39,9 @@ impl From<AllocError> for ReadAll {
     }
 }
 
-/// All bytes of a source, where there are at most `limit`. Each read takes at least one byte or is
-/// the last one, so there are at most `limit + 1` reads. After an error the source stays where it
-/// was read to.
+/// All bytes of a source, if there are at most `limit`. Each read takes at least one byte or is the
+/// last one, so there are at most `limit + 1` reads. After an error the source stays at the place
+/// up to which it was read.
 pub fn read_all<S: Source>(alloc: Global, source: &mut S, limit: usize) -> Result<Vec<u8>, ReadAll>
     requires { limit ≤ LIMIT }
 
@@ -48,7 +49,7 @@ pub fn read_all<S: Source>(alloc: Global, source: &mut S, limit: usize) -> Resul
         TakesAll (S.stream source.old) (S.stream source.new) bytes.items) }
     ensures limit { IfOk result (λ bytes. vec_len bytes ≤ limit) }
 
-    // The causes of the errors, and what was taken.
+    // The cause of each error, and what was read.
     ensures fault { IsErrOf result ReadAll.Fault
         → FailsWithin (S.stream source.old) (S.stream source.new) limit }
     ensures over { IsErrOf result ReadAll.OverLimit
@@ -56,12 +57,12 @@ pub fn read_all<S: Source>(alloc: Global, source: &mut S, limit: usize) -> Resul
     ensures memory { IsErrOf result ReadAll.OutOfMemory
         → TakesAtMost (S.stream source.old) (S.stream source.new) (limit + 1) }
 
-    // At most one read more than bytes.
+    // At most one more read than bytes.
     ensures reads { MatchResult result
         (λ bytes. ReadsWithin S.read_gives (vec_len bytes + 1) source.old source.new)
         (λ _. ReadsWithin S.read_gives (limit + 1) source.old source.new) }
 
-    // No read is made behind one that failed.
+    // No read follows one that failed.
     ensures stops { IsErrOf result ReadAll.Fault
         → ReadsTillFault S.read_gives limit source.old source.new }
 {

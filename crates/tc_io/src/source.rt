@@ -1,4 +1,4 @@
-//! What bytes come from, and what they go to.
+//! What bytes are read from, and what they are written to.
 
 ghost use Rattle.std.specs.Prelude.{◌≡◌, ℕ, ◌<◌, List, Result, length, IfOk, ⊤};
 ghost use Rattle.std.specs.Io.{ReadsAtMost, WritesAtMost};
@@ -11,16 +11,16 @@ ghost use Rattle.tc_io.specs.declared.source.Failed.{Failed as Fault};
 #[derive(Clone, Copy, Debug, PartialEq, Eq)]
 pub struct Failed;
 
-/// What bytes come from.
+/// What bytes are read from.
 pub trait Source {
-    /// The bytes still to come, where the source tells them, and how often it failed.
+    /// The bytes still to come, if the contract knows them, and the number of faults.
     ghost stream: { Self → Stream };
 
-    /// What a read with room for so many bytes may answer, and which source it may leave.
+    /// The results that a read into a buffer of this length may have, and the sources that it may leave.
     ghost read_gives: { Self → ℕ → Result ℕ Fault → Self → Type 0 } = { λ _ _ _ _. ⊤ };
 
-    /// Reads bytes into the front of the buffer, and says how many. A call that gives none into a
-    /// buffer with room is at the end. A call that fails has taken nothing.
+    /// Reads bytes into a prefix of the buffer, and says how many. A call that reads none into a
+    /// buffer with room is at the end. A failed call has read nothing.
     fn read(&mut self, buf: &mut [u8]) -> Result<usize, Failed>
         ensures bound { ReadsAtMost result buf.new }
         ensures bytes { ReadConsumes
@@ -29,16 +29,16 @@ pub trait Source {
         ensures call { read_gives self.old (length buf.old) result self.new };
 }
 
-/// What bytes go to.
+/// What bytes are written to.
 pub trait Sink {
-    /// The bytes taken so far, where the sink tells them, and how often it failed.
+    /// The bytes written so far, if the contract knows them, and the number of faults.
     ghost stream: { Self → Stream };
 
-    /// What a write of a piece may answer, and which sink it may leave.
+    /// The results that a write of a piece may have, and the sinks that it may leave.
     ghost write_gives: { Self → List ℕ → Result ℕ Fault → Self → Type 0 } = { λ _ _ _ _. ⊤ };
 
-    /// Takes bytes from the front of the piece, and says how many: at least one, where the piece
-    /// has any. A call that fails has taken nothing.
+    /// Takes a prefix of the piece, and says how many bytes: at least one, if the piece has any. A
+    /// failed call has taken nothing.
     fn write(&mut self, piece: &[u8]) -> Result<usize, Failed>
         ensures bound { WritesAtMost result piece.now }
         ensures some { IfOk result (λ count. 0 < length piece.now → 0 < count) }

@@ -1,11 +1,11 @@
-//! Words of the command line.
+//! Command-line arguments.
 
 ghost use Rattle.std.specs.Prelude.{◌≡◌, IfOk};
 
 use std::alloc::{AllocError, Global};
 use std::marker::Model;
 
-/// A word of the command line, which need not be text. A contract sees its bytes.
+/// A command-line argument, which need not be text. Contracts see its bytes.
 #[derive(Drop)]
 pub struct Word {
     bytes: Vec<u8>,
@@ -20,7 +20,7 @@ impl Model for Word {
 }
 
 impl Word {
-    /// A word that keeps a copy of these bytes.
+    /// An argument with a copy of these bytes.
     pub fn from_bytes(alloc: Global, bytes: &[u8]) -> Result<Word, AllocError>
         ensures { IfOk result (λ w. w ≡ bytes.now) }
     {
@@ -29,7 +29,7 @@ impl Word {
         })
     }
 
-    /// The bytes of the word.
+    /// The bytes of the argument.
     pub fn bytes(&self) -> &[u8]
         ensures { result.now ≡ self.now }
     {

@@ -1,4 +1,4 @@
--- How a word is taken apart: the plain way, from the six fields of the R form.
+-- How a word is decoded, from the six fields of the R form.
 use Rattle.std.specs.Prelude.{◌≡◌, ℕ, ◌+◌, ◌-◌, ◌*◌, ◌/◌, ◌^◌, ◌<◌, ◌↔◌, ◌==◌, ◌&&◌, if◌then◌else◌, [], ◌∷◌, Option, Some, None}
 use Rattle.std.specs.Option.{option_map}
 use Rattle.tc_isa.specs.Rows.{bits, from_fields, r_fields, encoded, IsValid, Decodes}
@@ -31,7 +31,7 @@ pub record IsSplit (word : ℕ) (f : Fields) : Type 0 where
   pub within : IsWithin f
   pub whole : word ≡ word_of f
 
--- a number of n bits, from its highest bit on to 32 bits
+-- a number of n bits, sign-extended to 32 bits
 abbrev pub signed : ℕ → ℕ → ℕ
 signed n x = x + x / 2 ^ (n - 1) * (2 ^ 32 - 2 ^ n)
 
@@ -78,7 +78,7 @@ imm_of m n =
     else if (n == 5) && (m == 32) then Some imm.Srai
     else None
 
--- ---- the numbers that the forms put together from the fields
+-- ---- the immediates that the forms compose from the fields
 
 -- bits 31 to 20 of the word
 abbrev pub high_bits : Fields → ℕ
@@ -168,20 +168,20 @@ fields_of word = record {
 unfoldable pub decoded : ℕ → Option Instr
 decoded word = instr_of (fields_of word)
 
--- ---- what the rows and the reading of a word say of each other
+-- ---- how the rows and the reading of a word are related
 
 -- a word has at most one instruction
 abbrev pub OneInstruction : Type 0
 OneInstruction = (word : ℕ) (i j : Instr) → word < 2 ^ 32 → Decodes word i → Decodes word j → i ≡ j
 
--- what is read from a word is what the rows say of it
+-- reading a word and the rows of the table agree
 abbrev pub SameAsRows : Type 0
 SameAsRows = (word : ℕ) (i : Instr) → word < 2 ^ 32 → (decoded word ≡ Some i) ↔ Decodes word i
 
--- the word of an instruction decodes to the instruction
+-- `decode` after `encode`
 abbrev pub DecodesAgain : Type 0
 DecodesAgain = (i : Instr) → IsValid i → decoded (encoded i) ≡ Some i
 
--- what a word decodes to has that word
+-- `encode` after `decode`
 abbrev pub EncodesBack : Type 0
 EncodesBack = (word : ℕ) (i : Instr) → word < 2 ^ 32 → decoded word ≡ Some i → encoded i ≡ word

@@ -17,7 +17,7 @@ use Rattle.tc_isa.specs.declared.instr.Instr.TheVariants.{Lui, Auipc, Jal, Jalr,
 abbrev pub bits : ℕ → ℕ → ℕ → ℕ
 bits hi lo n = n / 2 ^ lo % 2 ^ (hi + 1 - lo)
 
--- fields by their number of bits and value, one after another, from the highest down
+-- fields by their number of bits and value, concatenated, from the highest down
 abbrev pub after_fields : ℕ → List (ℕ × ℕ) → ℕ
 after_fields high [] = high
 after_fields high (field ∷ fields) = after_fields (high * 2 ^ field.0 + field.1) fields
@@ -138,6 +138,6 @@ IsValid (Fence rd rs1 imm) = (rd < 32) × (rs1 < 32) × (imm < 2 ^ 12)
 IsValid Ecall = Unit {0}
 IsValid Ebreak = Unit {0}
 
--- a row gives the word for the instruction, whose fields are in their ranges
+-- a row has the word for the instruction, whose fields are in their ranges
 abbrev pub Decodes : ℕ → Instr → Type 0
 Decodes word instr = IsValid instr × (word ≡ encoded instr)

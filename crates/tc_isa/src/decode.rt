@@ -50,7 +50,7 @@ fn store_of(code: u32) -> Option<StoreKind>
     }
 }
 
-/// The operation on an immediate by its codes. Of the shifts alone funct7 is one.
+/// The operation on an immediate by its codes. Only shifts use funct7.
 fn imm_of(funct7: u32, funct3: u32) -> Option<ImmOp>
     ensures { result ≡ reading.imm_of funct7 funct3 }
 {
@@ -145,7 +145,7 @@ fn j_number(fields: &Fields) -> u32
     sign_extended(21, then(number, 1, 0))
 }
 
-/// The immediate of an operation: a shift keeps its number of places where rs2 stands.
+/// The immediate of an operation. A shift has its amount in the field of rs2.
 fn imm_number(op: ImmOp, fields: &Fields) -> u32
     requires { reading.IsWithin fields.now }
     ensures { result ≡ reading.imm_number op fields.now }
@@ -236,7 +236,7 @@ fn op_instr_of(fields: &Fields) -> Option<Instr>
     Some(Instr::Op { op, rd, rs1, rs2 })
 }
 
-/// The instruction that the fields stand for.
+/// The instruction that the fields encode.
 #[tactic(auto, unfolding(crate::specs::Reading::instr_of))]
 fn instr_of(fields: &Fields) -> Option<Instr>
     requires { reading.IsWithin fields.now }
@@ -276,21 +276,21 @@ fn instr_of(fields: &Fields) -> Option<Instr>
     }
 }
 
-/// The instruction of a word, None of a word that is no instruction of RV32IM: compressed code, the
-/// other extensions, CSRs and FENCE.I are none.
+/// The instruction that a word encodes, or None if it encodes none of RV32IM. Compressed code, the
+/// other extensions, CSRs and FENCE.I are not supported.
 #[tactic(auto, unfolding(crate::specs::Reading::decoded))]
 pub fn decode(word: u32) -> Option<Instr>
     ensures value { result ≡ reading.decoded word }
-    // A row gives the word for the instruction.
+    // Sound: a row of the table has the word for this instruction.
     ensures some { IfSome result (λ instr. Decodes word instr) }
-    // No row gives a word that has no instruction, and no other instruction has the word.
+    // Complete: None only if no row has the word; and no word encodes two instructions.
     ensures only { (instr : Instruction) → Decodes word instr → result ≡ Some instr }
 {
     instr_of(&Fields::of(word))
 }
 
-/// A law of the instruction table: its rows, `decode` and `encode` say the same. The function does
-/// nothing.
+/// Lemma of the instruction table: its rows, `decode` and `encode` agree. The function has no
+/// effect when it is called.
 pub fn rows_decide()
     ensures one { reading.OneInstruction }
     ensures rows { reading.SameAsRows }

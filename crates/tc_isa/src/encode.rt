@@ -188,7 +188,7 @@ fn word_of(instr: &Instr) -> u32
 pub fn encode(instr: &Instr) -> u32
     requires { IsValid instr.now }
     ensures word { result ≡ encoded instr.now }
-    // What `decode` answers at the word.
+    // `decode` gives the instruction back.
     ensures decodes { decoded result ≡ Some instr.now }
 {
     word_of(instr)

@@ -57,7 +57,7 @@ impl Fault {
         }
     }
 
-    /// The fault of a number, where there is one: what reads a report takes this way back.
+    /// The fault with a number, if there is one. Readers of reports use it.
     pub fn of_number(number: u32) -> Option<Fault>
         ensures some { IsSome result ↔ ((1 ≤ number) × (number ≤ 12)) }
         ensures value { IfSome result (λ fault. fault_number fault ≡ number) }

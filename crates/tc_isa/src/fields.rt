@@ -41,8 +41,8 @@ pub(crate) fn sign_extended(width: u32, number: u32) -> u32
     }
 }
 
-/// The six fields of a word as they stand in the R form. The other forms put their immediates into
-/// the same places.
+/// The six fields of a word in the R form. The other forms have their immediates in the same
+/// places.
 #[derive(Clone, Copy)]
 pub(crate) struct Fields {
     /// Bits 31 to 25.

@@ -5,8 +5,8 @@ ghost use Rattle.tc_isa.specs.Sets.{has, locks_of, with_lock, without_lock, IsGr
 
 use std::marker::Model;
 
-/// A set of numbers of locks below 32. A contract sees the number whose bits are the set, so that
-/// equal sets are equal values.
+/// A set of lock numbers below 32. Contracts see the number whose bits are the set, so equal sets
+/// are equal values.
 #[derive(Clone, Copy, Debug, PartialEq, Eq)]
 pub struct Held {
     locks: u32,
@@ -25,8 +25,8 @@ impl Model for Held {
 }
 
 impl Held {
-    /// How many places a held set has: one for each number of a lock that may be in it. How many
-    /// guards a guest's file may have is a limit of its own.
+    /// The number of places of a held set, one for each lock number that it may have. How many
+    /// guards a guest's file may have is a separate limit.
     pub const PLACES: u32 = 32;
 
     /// The set of no lock.

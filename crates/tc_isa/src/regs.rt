@@ -6,8 +6,8 @@ ghost use Rattle.tc_isa.specs.Registers.{Registers, started, get, with_register,
 use crate::reg::Reg;
 use std::marker::Model;
 
-/// The program counter and the 32 registers of a thread. Register 0 stays 0, and the program
-/// counter a multiple of 4, since no compressed instruction is known.
+/// The program counter and the 32 registers of a thread. Register 0 stays 0. The program counter
+/// stays a multiple of 4, since compressed instructions are not supported.
 #[derive(Clone, Copy, Debug, PartialEq, Eq)]
 pub struct Regs {
     counter: u32,
@@ -86,7 +86,7 @@ impl Regs {
         }
     }
 
-    /// Goes to another program counter.
+    /// Jumps to another program counter.
     pub fn go(&mut self, pc: u32)
         requires { pc % 4 ≡ 0 }
         ensures { self.new ≡ record self.old { pc = pc } }
@@ -94,8 +94,8 @@ impl Regs {
         self.counter = pc;
     }
 
-    /// Goes on to the next word of code, four bytes behind this one. Behind the greatest address
-    /// comes 0.
+    /// Goes on to the next word of code, four bytes on. The greatest address is followed by address
+    /// 0.
     pub fn step(&mut self)
         ensures { self.new ≡ record self.old { pc = (self.old.pc + 4) % 2 ^ 32 } }
     {

@@ -1,6 +1,6 @@
--- The batch rule: which sections of a lock may follow one another. A section of a lock is the blocks from the one
--- that takes it to the one that gives it up. An Adopted section is run by the worker that ran the one before it;
--- the batch limit says how many of those may stand in a row: how long the streak may be.
+-- The batch rule: which sections of a lock may follow one another. A section of a lock is the blocks
+-- from the one that takes it to the one that releases it. An Adopted section is run by the worker that
+-- ran the one before it; the batch limit bounds the streak: the number of consecutive Adopted sections.
 use Rattle.std.specs.Prelude.{◌≡◌, ℕ, zero, suc, ◌+◌, ◌-◌, length, slice_get, Bool, true, false, not, ◌&&◌, ◌||◌, ◌==◌, nat_lt, nat_le, if◌then◌else◌, List, [], ◌∷◌, ◌++◌, Option, Some, None}
 use Rattle.tc_isa.specs.Sets.{has, with_lock}
 use Rattle.tc_isa.specs.declared.held.TheConstants.Held.{PLACES}
@@ -12,7 +12,7 @@ use Rattle.tc_journal.specs.declared.block.Kind.TheVariants.{Start, On, Taken, A
 
 -- ---- one block
 
--- a block of this kind begins a section: its first turn took a lock
+-- a block of this kind begins a section: its first step took a lock
 abbrev pub is_section : Kind → Bool
 is_section Start = false
 is_section On = false
@@ -40,7 +40,7 @@ abbrev pub top_below : ℕ → (ℕ → Bool) → Option ℕ
 top_below zero held = None
 top_below (suc n) held = if held n then Some n else top_below n held
 
--- the lock that the block's first turn took: the greatest of its held set, since a LOCK takes only a lock above all that are held
+-- the lock that the block's first step took: the greatest of its held set, since a LOCK takes only a lock above these
 abbrev pub takes_of : Block → Option ℕ
 takes_of b = if is_section b.kind then top_below PLACES (has b.held) else None
 
@@ -48,7 +48,7 @@ abbrev pub is_lock : Option ℕ → ℕ → Bool
 is_lock None lock = false
 is_lock (Some taken) lock = lock == taken
 
--- what the block's thread held before its first turn
+-- what the block's thread held before its first step
 abbrev pub held_before : Block → ℕ → Bool
 held_before b lock = has b.held lock && not (is_lock (takes_of b) lock)
 
@@ -83,19 +83,19 @@ ends_section lock b = unlocks lock b.end || ends_thread b.end
 abbrev pub is_only : ℕ → ℕ → Bool
 is_only held lock = held == with_lock 0 lock
 
--- whether the worker of the block goes on with a waiter for the lock: the block released the lock, which was the whole
--- held set, and the streak is below the limit. `run` is the streak: how many Adopted sections stand in a row
+-- whether the worker of the block goes on with a waiter for the lock: the block released the lock,
+-- which was the whole held set, and the streak is below the limit. `run` is the streak
 abbrev pub may_adopt : Block → ℕ → ℕ → ℕ → Bool
 may_adopt b lock run limit = unlocks lock b.end && is_only b.held lock && nat_lt run limit
 
--- what keeps a worker from adopting after a section ended: the streak is at the limit, or the block ended its thread or
--- had another lock too
+-- what keeps a worker from adopting after a section ended: the streak is at the limit, or the block
+-- ended its thread or had another lock too
 abbrev pub has_cause : Block → ℕ → ℕ → ℕ → Bool
 has_cause b lock run limit = nat_le limit run || ends_thread b.end || not (is_only b.held lock)
 
 -- ---- the blocks of a lock before another one
 
--- the streak: how many Adopted sections stand in a row at the end
+-- the streak: the number of consecutive Adopted sections at the end
 abbrev pub run_after : ℕ → ℕ → Block → ℕ
 run_after lock n b = if begins lock b then (if is_adopted b.kind then n + 1 else 0) else n
 
@@ -111,9 +111,9 @@ last_of bs = slice_get bs (length bs - 1)
 
 -- ---- what may follow
 
--- whether a section of this kind, whose first block has this worker, may follow, where the last block and the streak are
--- these. The first section is Taken. A later one follows only a block that ended one. It is Adopted only where that block's
--- worker may adopt, and by that worker; it is Granted only where it may not.
+-- whether a section of this kind, whose first block has this worker, may follow this last block and
+-- streak. The first section is Taken. A later one follows only a block that ended a section. It is Adopted
+-- only if that block's worker may adopt, and by that worker; it is Granted only if that worker may not.
 abbrev pub may_begin : ℕ → ℕ → Option Block → ℕ → Kind → ℕ → Bool
 may_begin lock limit last run Start worker = false
 may_begin lock limit last run On worker = false
@@ -129,11 +129,11 @@ abbrev pub may_go_on : ℕ → Option Block → ℕ → Bool
 may_go_on lock None thread = false
 may_go_on lock (Some b) thread = not (ends_section lock b) && (b.thread == thread)
 
--- whether the batch rule lets a section of this kind, whose first block has this worker, follow these blocks
+-- whether the batch rule allows a section of this kind, whose first block has this worker, after these blocks
 unfoldable pub allows_of : ℕ → ℕ → List Block → Kind → ℕ → Bool
 allows_of lock limit before kind worker = may_begin lock limit (last_of before) (run_of lock before) kind worker
 
--- whether the batch rule lets the block follow these
+-- whether the batch rule allows the block after these
 unfoldable pub may_follow : ℕ → ℕ → List Block → Block → Bool
 may_follow lock limit before b = if begins lock b then allows_of lock limit before b.kind b.worker else may_go_on lock (last_of before) b.thread
 
@@ -145,14 +145,14 @@ ObeysAfter lock limit before (b ∷ bs) = (may_follow lock limit before b ≡ tr
 abbrev pub Obeys : ℕ → ℕ → List Block → Type 0
 Obeys lock limit bs = ObeysAfter lock limit [] bs
 
--- ---- passing on: a law beyond the batch rule. A section that is passed on is of another thread than the section before it
+-- ---- passing on, beyond the batch rule: a section that is passed on is of another thread than the section before it
 
--- whether a section of this kind may be this thread's, where the last block of the lock is this
+-- whether a section of this kind may be this thread's, given the last block of the lock
 abbrev pub passes_to : Option Block → Kind → ℕ → Bool
 passes_to None kind thread = true
 passes_to (Some b) kind thread = not (is_passed kind && (b.thread == thread))
 
--- whether the block, if it begins a section of the lock, got it so
+-- whether the block, if it begins a section of the lock, obeys this
 unfoldable pub passes_on : ℕ → List Block → Block → Bool
 passes_on lock before b = if begins lock b then passes_to (last_of before) b.kind b.thread else true
 

@@ -1,4 +1,4 @@
--- Histories: which lists of blocks they are, and what they are looked at for.
+-- Histories: which lists of blocks they are, and their projections.
 use Rattle.std.specs.Prelude.{◌≡◌, ℕ, ◌+◌, ◌^◌, ◌<◌, ◌≤◌, ◌==◌, List, [], ◌∷◌, length, map, filter, Contains, IfSome, Vec, slice_set}
 use Rattle.std.specs.Global.{Global}
 use Rattle.std.specs.List.{flat_map, fold, range_with_len}
@@ -11,7 +11,7 @@ use Rattle.tc_journal.specs.declared.block.BlockV1.{BlockV1}
 use Rattle.tc_journal.specs.declared.block.End.{End}
 use Rattle.tc_journal.specs.declared.block.End.TheVariants.{Wants, Unlocked, Slept, Cut, Exit, Fault, Spent}
 
--- a lock that an end names is one that a held set has a place for
+-- a lock that an end names has a place in a held set
 abbrev pub IsEnd : End → Type 0
 IsEnd (Wants lock) = lock < PLACES
 IsEnd (Unlocked lock) = lock < PLACES
@@ -21,8 +21,8 @@ IsEnd Exit = Unit {0}
 IsEnd (Fault fault) = Unit {0}
 IsEnd Spent = Unit {0}
 
--- what may be told of a block in a history: it has 1 to MAX_TURNS turns, its locks have places in a held set, and its other numbers
--- are of their types
+-- what a line may say of a block in a history: it has 1 to MAX_TURNS steps, its locks have places
+-- in a held set, and its other numbers are of their types
 pub record IsTold (t : Told) : Type 0 where
   pub stamp : t.block.stamp < 2 ^ 64
   pub thread : t.block.thread < 2 ^ 32
@@ -33,11 +33,11 @@ pub record IsTold (t : Told) : Type 0 where
   pub pc : IfSome t.pc (λ pc. pc < 2 ^ 32)
   pub end : IsEnd t.block.end
 
--- a block that may stand in a history
+-- a block that may be in a history
 abbrev pub IsBlock : Block → Type 0
 IsBlock b = IsTold (told b)
 
--- blocks of which their lines tell this, and whose stamps are the numbers from `first` on
+-- blocks whose lines say this, and whose stamps are the numbers from `first` on
 abbrev pub IsToldFrom : {B : Type 0} → (B → Told) → ℕ → List B → Type 0
 IsToldFrom told_of first [] = Unit {0}
 IsToldFrom told_of first (b ∷ bs) = IsTold (told_of b) × ((told_of b).block.stamp ≡ first) × IsToldFrom told_of (first + 1) bs
@@ -50,11 +50,11 @@ IsHistoryFrom first h = IsToldFrom told first h
 abbrev pub IsHistory : List Block → Type 0
 IsHistory h = IsHistoryFrom 0 h
 
--- each block stands at the place of its stamp
+-- each block is at the index of its stamp
 abbrev pub IsInOrder : List Block → Type 0
 IsInOrder h = map (λ b. b.stamp) h ≡ range_with_len 0 (length h)
 
--- in which order the threads have their turns: pairs of a thread and a number of turns
+-- the order in which the threads step: pairs of a thread and a number of steps
 abbrev pub schedule : List Block → List (ℕ × ℕ)
 schedule h = map (λ b. (b.thread, b.turns)) h
 
@@ -73,10 +73,10 @@ of_lock h lock = filter (λ b. has b.held lock) h
 abbrev pub all_blocks : List (Vec Block Global) → List Block
 all_blocks logs = flat_map (λ log. log.items) logs
 
--- each number below the number of blocks is the stamp of one of them, so each is that of just one
+-- each number below the number of blocks is the stamp of one of them, so no two have the same
 abbrev pub HasEachStamp : List Block → Type 0
 HasEachStamp blocks = (stamp : ℕ) → stamp < length blocks → Contains (map (λ b. b.stamp) blocks) stamp
 
--- a history in which these blocks were put, one after the other, each at the place of its stamp
+-- a history into which these blocks were put, one after the other, each at the index of its stamp
 abbrev pub placed : List Block → List Block → List Block
 placed history blocks = fold (λ h b. slice_set h b.stamp b) history blocks

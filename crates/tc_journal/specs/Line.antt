@@ -36,12 +36,12 @@ abbrev pub numbers_text : List ℕ → List ℕ
 numbers_text [] = codes "-"
 numbers_text (n ∷ ns) = decimal n ++ flat_map comma_text ns
 
--- the pc, which an old line has not
+-- the pc, which an old line does not have
 abbrev pub pc_text : Option ℕ → List ℕ
 pc_text None = []
 pc_text (Some pc) = codes " pc " ++ hex8 pc
 
--- the line that tells this, without its end of line
+-- the line that says this, without its newline
 unfoldable pub told_text : Told → List ℕ
 told_text t =
     codes "block " ++ decimal t.block.stamp ++ codes " thread " ++ decimal t.block.thread ++ codes " turns " ++ decimal t.block.turns
@@ -55,7 +55,7 @@ told_line t = told_text t ++ 10 ∷ []
 abbrev pub block_line : Block → List ℕ
 block_line b = told_line (told b)
 
--- the lines of blocks, by what each line tells
+-- the lines of blocks, given what each line says
 abbrev pub lines_text : {B : Type 0} → (B → Told) → List B → List ℕ
 lines_text told_of blocks = flat_map (λ b. told_line (told_of b)) blocks
 

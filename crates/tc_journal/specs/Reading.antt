@@ -1,10 +1,10 @@
--- What is read of a text that may be that of a history.
+-- What is read from a text that may be that of a history.
 use Rattle.std.specs.Prelude.{◌≡◌, ◌≢◌, ℕ, ◌+◌, List, [], ◌++◌, length}
 use Rattle.tc_journal.specs.Told.{Told}
 use Rattle.tc_journal.specs.History.{IsTold, IsToldFrom}
 use Rattle.tc_journal.specs.Line.{told_line, lines_text}
 
--- the text begins with the line that tells this of a block of a history with this stamp
+-- the text begins with the line that says this of a block of a history with this stamp
 pub record BeginsWith (text : List ℕ) (stamp : ℕ) (t : Told) : Type 0 where
   pub block : IsTold t
   pub place : t.block.stamp ≡ stamp
@@ -16,13 +16,13 @@ pub record IsTextOf {B : Type 0} (told_of : B → Told) (text : List ℕ) (h : L
   pub history : IsToldFrom told_of 0 h
   pub lines : text ≡ lines_text told_of h
 
--- the lines at the front are those of a history, and what is left does not begin with the line of the next block
+-- these lines at the start are those of a history, and the rest does not begin with the line of the next block
 pub record Reads {B : Type 0} (told_of : B → Told) (text : List ℕ) (h : List B) (left : List ℕ) : Type 0 where
   pub history : IsToldFrom told_of 0 h
   pub lines : text ≡ lines_text told_of h ++ left
   pub stops : (b : B) → BeginsWith left (length h) (told_of b) → ⊥
 
--- the line of this number, from 1, is there and is wrong, and the lines before it are those of a history
+-- the line of this number, from 1, exists and is wrong, and the lines before it are those of a history
 pub record IsFirstWrong {B : Type 0} (told_of : B → Told) (text : List ℕ) (line : ℕ) : Type 0 where
   pub before : List B
   pub left : List ℕ

@@ -1,4 +1,4 @@
--- By which rule a block ends.
+-- The rule for where a block ends.
 use Rattle.std.specs.Prelude.{ℕ, ◌==◌, if◌then◌else◌, Option, Some, None}
 use Rattle.tc_isa.specs.declared.limits.TheConstants.{MAX_TURNS}
 use Rattle.tc_journal.specs.declared.block.End.{End}
@@ -6,8 +6,8 @@ use Rattle.tc_journal.specs.declared.block.End.TheVariants as end
 use Rattle.tc_journal.specs.declared.rule.Outcome.{Outcome}
 use Rattle.tc_journal.specs.declared.rule.Outcome.TheVariants.{Went, Unlocked, Slept, Exited, Faulted, Spent}
 
--- how a block ends whose last turn came out so and was its turn of this number, where the next turn would take
--- this lock, or none: the thread's end comes before all else, an unlock or a sleep before a wish, a wish before a cut
+-- how a block ends after a last step with this outcome and this number, if the next step would take this lock, or
+-- none: the thread's end has priority, then an unlock or a sleep, then a lock that the thread wants, then a cut
 abbrev pub end_rule : Outcome → ℕ → Option ℕ → Option End
 end_rule Exited turns next = Some end.Exit
 end_rule (Faulted fault) turns next = Some (end.Fault fault)

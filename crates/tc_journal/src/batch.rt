@@ -1,4 +1,4 @@
-//! The batch rule over the last block of a lock: which section of it may follow.
+//! The batch rule: which section of a lock may follow the lock's last block.
 
 ghost use Rattle.std.specs.Prelude.{◌≡◌, ◌<◌, ◌≤◌};
 ghost use Rattle.tc_isa.specs.declared.limits.TheConstants.{MAX_BATCH};
@@ -42,14 +42,14 @@ impl End {
 }
 
 impl Block {
-    /// Whether the block, one that has the lock, ended a section of it.
+    /// Whether the block, which has the lock, ended a section of it.
     pub fn ends_section(&self, lock: u32) -> bool
         ensures { result ≡ batch.ends_section lock self.now }
     {
         self.end.unlocks(lock) || self.end.ends_thread()
     }
 
-    /// The lock that the block's first turn took, where it took one.
+    /// The lock that the block's first step took, if it took one.
     pub fn takes(&self) -> Option<u32>
         ensures { result ≡ batch.takes_of self.now }
     {
@@ -71,7 +71,7 @@ impl Block {
     }
 }
 
-/// Whether a lock is a whole set of held locks.
+/// Whether a held set has this lock and no other.
 fn is_only(held: Held, lock: u32) -> bool
     ensures { result ≡ batch.is_only held lock }
 {
@@ -80,17 +80,17 @@ fn is_only(held: Held, lock: u32) -> bool
     lock < Held::PLACES && held == Held::none().plus(lock)
 }
 
-/// Whether the worker of this last block of the lock is to go on with a waiter: the block released
-/// the lock, held no other, and the streak is below the limit. `run` is the streak: how many
-/// Adopted sections of the lock stand in a row. Where this does not hold, a waiter is granted.
+/// Whether the worker of this last block of the lock has to go on with a waiter: the block released
+/// the lock, held no other, and the streak is below the limit. `run` is the streak, the number of
+/// consecutive Adopted sections of the lock. Otherwise a waiter is granted the lock.
 pub fn may_adopt(block: &Block, lock: u32, run: u32, limit: u32) -> bool
     ensures { result ≡ batch.may_adopt block.now lock run limit }
 {
     block.end.unlocks(lock) && is_only(block.held, lock) && run < limit
 }
 
-/// Whether a section of this kind, whose first block has this worker, may follow, where these are
-/// the last block of the lock and its streak of Adopted sections.
+/// Whether a section of this kind, whose first block has this worker, may follow the last block of
+/// the lock, given its streak of Adopted sections.
 pub fn may_begin(
     lock: u32,
     limit: u32,
@@ -112,8 +112,8 @@ pub fn may_begin(
     }
 }
 
-/// Whether a section of this kind may be this thread's, where this is the last block of the lock:
-/// a section that is passed on goes to another thread.
+/// Whether a section of this kind may be this thread's, given the last block of the lock: a section
+/// that is passed on goes to another thread.
 pub fn passes_to(last: Option<Block>, kind: Kind, thread: u32) -> bool
     ensures { result ≡ batch.passes_to last kind thread }
 {
@@ -126,7 +126,7 @@ pub fn passes_to(last: Option<Block>, kind: Kind, thread: u32) -> bool
     }
 }
 
-/// The streak of Adopted sections after one block more.
+/// The streak of Adopted sections after one more block.
 pub fn run_after(lock: u32, run: u32, block: &Block) -> u32
     requires { run ≤ MAX_BATCH }
     ensures { result ≡ batch.run_after lock run block.now }

@@ -13,24 +13,24 @@ pub enum Kind {
     Start,
     /// A later block, without a lock taken.
     On,
-    /// Its first turn took a lock that nobody handed on.
+    /// Its first step took a lock that nobody passed on.
     Taken,
-    /// Its first turn took a lock on behalf of a waiter, by the worker that released it.
+    /// Its first step took a lock for a waiter, run by the worker that released the lock.
     Adopted,
-    /// Its first turn took a lock that was handed on to a waiter, for any worker to run.
+    /// Its first step took a lock that was passed on to a waiter, for any worker to run.
     Granted,
 }
 
 /// How a block ended.
 #[derive(Clone, Copy, Debug, PartialEq, Eq)]
 pub enum End {
-    /// The next turn takes the lock of this number.
+    /// The next step takes the lock of this number.
     Wants(u32),
-    /// The last turn released the lock of this number.
+    /// The last step released the lock of this number.
     Unlocked(u32),
-    /// The last turn was a SLEEP.
+    /// The last step was a SLEEP.
     Slept,
-    /// The block has as many turns as a block may have.
+    /// The block has as many steps as a block may have.
     Cut,
     /// The thread exited.
     Exit,
@@ -40,26 +40,26 @@ pub enum End {
     Spent,
 }
 
-/// A block: turns of one thread that one worker ran without a break.
+/// A block: consecutive steps (turns) of one thread that one worker ran.
 #[derive(Clone, Copy, Debug, PartialEq, Eq)]
 pub struct Block {
     /// Its place in the history, from 0.
     pub stamp: u64,
     /// The number of its thread.
     pub thread: u32,
-    /// How many turns it has.
+    /// How many steps it has.
     pub turns: u32,
-    /// The locks that its thread held before its first turn, and the one that its first turn took.
+    /// The locks that its thread held before its first step, and the one that its first step took.
     pub held: Held,
     pub kind: Kind,
     /// The number of the worker that ran it.
     pub worker: u32,
-    /// The thread's `pc` before its first turn.
+    /// The thread's `pc` before its first step.
     pub pc: u32,
     pub end: End,
 }
 
-/// A block as it was told before its line had a `pc`: the other fields of `Block`.
+/// A block as it was printed before its line had a `pc`: the other fields of `Block`.
 #[derive(Clone, Copy, Debug, PartialEq, Eq)]
 pub struct BlockV1 {
     pub stamp: u64,

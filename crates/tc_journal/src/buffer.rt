@@ -1,5 +1,5 @@
-//! Lines in one array. They are written from the end to the front, so that the digits of a number,
-//! which come up from the last to the first, are written where they stay and not counted first.
+//! Lines in one array, written from the end to the front. The last digit of a number is computed
+//! first, so digits are written where they stay and need not be counted.
 
 ghost use Rattle.std.specs.Prelude.{◌≡◌, ℕ, ◌+◌, ◌/◌, ◌%◌, ◌^◌, ◌<◌, ◌≤◌, ◌∷◌, ◌++◌, [], false, decimal, drop, length};
 ghost use Rattle.std.specs.Fmt.{digit_glyph};
@@ -18,8 +18,8 @@ pub(crate) const LINES: usize = 16;
 /// How many bytes a buffer takes: room for so many lines.
 pub(crate) const ROOM: usize = 3_840;
 
-/// What is written of some lines, which is text. A contract sees its bytes. The array is the caller's,
-/// so that where the text starts is kept in a register while a line is put.
+/// The text that is written so far. Contracts see its bytes. The array is the caller's, so that the
+/// start of the text stays in a register while a line is written.
 #[derive(Drop)]
 pub(crate) struct Buffer<'a> {
     bytes: &'a mut [u8; ROOM],
@@ -51,7 +51,7 @@ fn digits_of(byte: u8) -> (u8, u8)
     (PAIRS[from], PAIRS[from + 1])
 }
 
-/// Writes the digits of a byte from a place on.
+/// Writes the digits of a byte from an offset on.
 pub(crate) fn write_byte(bytes: &mut [u8], at: usize, byte: u8)
     requires { at + 2 ≤ length bytes.old }
     ensures { drop at bytes.new ≡ hex2 byte ++ drop (at + 2) bytes.old }
@@ -61,7 +61,7 @@ pub(crate) fn write_byte(bytes: &mut [u8], at: usize, byte: u8)
     bytes[at + 1] = low;
 }
 
-/// Writes the digits of a word from a place on, those of its last byte first.
+/// Writes the digits of a word from an offset on, those of its last byte first.
 #[tactic(auto, unfolding(crate::specs::Digits::hex8))]
 pub(crate) fn write_word(bytes: &mut [u8], at: usize, word: u32)
     requires { at + 8 ≤ length bytes.old }
@@ -73,8 +73,8 @@ pub(crate) fn write_word(bytes: &mut [u8], at: usize, word: u32)
     write_byte(bytes, at, (word >> 24 & 0xff) as u8);
 }
 
-/// Writes a text from a place on, its last byte first. The texts of a line are short and known where
-/// they are written, so that this becomes one or two stores there.
+/// Writes a text from an offset on, its last byte first. The texts of a line are short constants,
+/// so that this compiles to one or two stores.
 fn write_text(bytes: &mut [u8], at: usize, text: &[u8])
     requires { at + length text.now ≤ length bytes.old }
     ensures { drop at bytes.new ≡ text.now ++ drop (at + length text.now) bytes.old }
@@ -86,8 +86,8 @@ fn write_text(bytes: &mut [u8], at: usize, text: &[u8])
     }
 }
 
-/// Writes the digits of a number so that they end at a place, and returns where they start. Most
-/// numbers of a line have one digit, so these come first.
+/// Writes the digits of a number so that they end at an offset, and returns where they start. Most
+/// numbers of a line have one digit, so that case comes first.
 #[inline(always)]
 fn write_number(number: u64, bytes: &mut [u8], end: usize) -> usize
     requires { (length (decimal number) ≤ end) × (end ≤ length bytes.old) }
@@ -102,14 +102,14 @@ fn write_number(number: u64, bytes: &mut [u8], end: usize) -> usize
 }
 
 impl<'a> Buffer<'a> {
-    /// A buffer with nothing written, of this room.
+    /// An empty buffer of this room.
     pub fn new(bytes: &'a mut [u8; ROOM]) -> Buffer<'a>
         ensures { result ≡ [] }
     {
         Buffer { bytes, start: ROOM }
     }
 
-    /// Puts a text in front.
+    /// Prepends a text.
     pub fn put_str(&mut self, text: &str)
         requires { length text.now + length self.old ≤ ROOM }
         ensures value { self.new ≡ text.now ++ self.old }
@@ -120,7 +120,7 @@ impl<'a> Buffer<'a> {
         self.start = at;
     }
 
-    /// Puts a number in front.
+    /// Prepends a number.
     #[inline(always)]
     pub fn put_number(&mut self, number: u64)
         requires { 20 + length self.old ≤ ROOM }
@@ -133,7 +133,7 @@ impl<'a> Buffer<'a> {
         self.start = write_number(number, self.bytes, end);
     }
 
-    /// Puts a word in front, as eight digits.
+    /// Prepends a word, as eight digits.
     #[tactic(auto, unfolding(crate::specs::Digits::hex8))]
     pub fn put_word(&mut self, word: u32)
         requires { 8 + length self.old ≤ ROOM }
@@ -145,8 +145,8 @@ impl<'a> Buffer<'a> {
         self.start = at;
     }
 
-    /// What is written. What was put in front each time is a text, so this is one too: that is proved
-    /// of each call and tested by none, which would go over each line once more.
+    /// The text that is written. Each part that was prepended is text, so the whole is text too.
+    /// That is proved and not tested, since a test would scan each line once more.
     pub fn into_str(self) -> &'a str
         ensures { result.now ≡ self.entry }
     {

@@ -10,18 +10,18 @@ pub(crate) trait Form: Drop {
     ghost use Rattle.std.specs.Prelude.{Bool};
     ghost use Rattle.tc_journal.specs.Told.{Told};
 
-    // What the block's line tells.
+    // The content of the block's line.
     ghost told: { Self → Told };
 
-    // Whether it tells a pc.
+    // Whether it has a pc.
     ghost has_pc: { Bool };
 
-    /// Whether the lines of such blocks tell a pc.
+    /// Whether the lines of such blocks have a pc.
     fn has_pc() -> bool
         ensures value { result ≡ has_pc }
         ensures each { (b : Self) → is_some (told b).pc ≡ has_pc };
 
-    /// The block of which a line of this form tells the same.
+    /// The block as a line of this form shows it.
     fn of(block: Block) -> Self
         ensures same { told result ≡ told_if has_pc block }
         ensures only { (b : Self) → block_of (told b) ≡ block → result ≡ b };

@@ -1,4 +1,4 @@
-//! Histories put together and printed.
+//! Histories merged and printed.
 
 ghost use Rattle.std.specs.Prelude.{◌≡◌, ◌<◌, All, IfOk, length, map};
 ghost use Rattle.std.specs.List.{flat_map};
@@ -20,7 +20,7 @@ pub fn merge(alloc: Global, logs: &[Vec<Block>]) -> Result<Vec<Block>, AllocErro
     merge_lent(alloc, &parts)
 }
 
-/// Logs, where they stand.
+/// Logs, borrowed.
 fn lent(alloc: Global, logs: &[Vec<Block>]) -> Result<Vec<&[Block]>, AllocError>
     ensures { IfOk result (λ parts. map (λ log. log.now) parts.items ≡ map (λ log. log.items) logs.now) }
 {
@@ -31,7 +31,7 @@ fn lent(alloc: Global, logs: &[Vec<Block>]) -> Result<Vec<&[Block]>, AllocError>
     Ok(parts)
 }
 
-/// How many blocks logs have.
+/// How many blocks the logs have.
 fn count_of(logs: &[&[Block]]) -> usize {
     let mut count: usize = 0;
     for log in logs {
@@ -40,7 +40,7 @@ fn count_of(logs: &[&[Block]]) -> usize {
     count
 }
 
-/// The blocks of all logs, where they stand, log after log.
+/// The blocks of all logs, borrowed, log after log.
 fn one_by_one<'a>(alloc: Global, logs: &[&'a [Block]]) -> Result<Vec<&'a Block>, AllocError>
     ensures { IfOk result (λ blocks.
         map (λ b. b.now) blocks.items ≡ flat_map (λ log. log.now) logs.now) }
@@ -62,7 +62,7 @@ fn place<'a>(history: &mut [&'a Block], log: &'a [Block])
     }
 }
 
-/// The blocks of all logs, where they stand, in the order of their stamps.
+/// The blocks of all logs, borrowed, in the order of their stamps.
 pub fn in_order<'a>(alloc: Global, logs: &[&'a [Block]]) -> Result<Vec<&'a Block>, AllocError>
     requires { HasEachStamp (flat_map (λ log. log.now) logs.now) }
     ensures blocks { IfOk result (λ history.
@@ -76,7 +76,7 @@ pub fn in_order<'a>(alloc: Global, logs: &[&'a [Block]]) -> Result<Vec<&'a Block
     Ok(history)
 }
 
-/// As `merge`, of logs that stand in different places.
+/// As `merge`, of logs that are stored in different places.
 pub fn merge_lent(alloc: Global, logs: &[&[Block]]) -> Result<Vec<Block>, AllocError>
     requires { HasEachStamp (flat_map (λ log. log.now) logs.now) }
     ensures blocks { IfOk result (λ history.
@@ -89,7 +89,7 @@ pub fn merge_lent(alloc: Global, logs: &[&[Block]]) -> Result<Vec<Block>, AllocE
         .collect(alloc)
 }
 
-/// The lines of the blocks, each with its end of line.
+/// The lines of the blocks, each with its newline.
 pub fn text(alloc: Global, history: &[Block]) -> Result<Vec<u8>, AllocError>
     ensures { IfOk result (λ bytes. bytes.items ≡ spec.history_text history.now) }
 {

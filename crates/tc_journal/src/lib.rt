@@ -1,20 +1,20 @@
-//! Histories: the blocks in which threads run, their printed lines, and the way back.
+//! Histories: the blocks in which threads run, their printed lines, and how these are read back.
 //!
-//! A thread runs in blocks of at least one turn. The layers above use the one rule by which a
-//! block ends, so that a machine, a package and a reader of a journal mean the same by a block.
-//! They are promised that logs are merged in the order of their stamps, that a history is printed
-//! as `specs/Line.antt` says, and that `read` takes the texts of histories and no others, gives
-//! back the history, and names the first line that is wrong; so does `read_v1` of texts in the old
-//! form. `specs/Batch.antt` says which sections of a lock may follow one another, and `batch` tests
-//! it.
+//! A thread runs in blocks of at least one step. All layers above use one rule for where a
+//! block ends: the abstract machine, a package and a reader of a journal mean the same by a
+//! block. Promises: logs are merged in the order of their stamps. A history is printed as
+//! `specs/Line.antt` says. `read` accepts a text if and only if it is that of a history,
+//! which it returns; otherwise it names the first wrong line. `read_v1` does so for the old
+//! form. `specs/Batch.antt` says which sections of a lock may follow one another; `batch`
+//! tests it.
 //!
 //! - `block`: what a block is, and one without its pc; `form`: the two forms of a block's line.
-//! - `batch`: which section of a lock may follow its last block; `law`: what that rule says.
-//! - `rule`: by which rule it ends.
+//! - `batch`: which section of a lock may follow its last block; `law`: the lemmas of that rule.
+//! - `rule`: where a block ends.
 //! - `line`: its printed line, written in one array (`buffer`); `digits`: words and bytes as
 //!   reports print them.
-//! - `history`: logs merged, histories printed.
-//! - `reading`: histories read back, by the block that a line may be (`spelling`).
+//! - `history`: merges logs, prints histories.
+//! - `reading`: reads histories back, by the block that a line may be (`spelling`).
 #![tactic(auto)]
 
 pub mod batch;

@@ -1,4 +1,6 @@
 //! The printed line of a block, in its form and in the old form.
+//!
+//! The parts of a line are always inlined, so that the start of the text stays in a register.
 
 ghost use Rattle.std.specs.Prelude.{◌≡◌, ◌+◌, ◌*◌, ◌<◌, ◌≤◌, ◌++◌, [], OnErr, OnOk, length, map, string_bytes, string_capacity, string_len};
 ghost use Rattle.tc_journal.specs.Line as spec;
@@ -11,7 +13,7 @@ use crate::buffer::{Buffer, LINES, ROOM};
 use std::alloc::AllocError;
 use tc_isa::held::Held;
 
-/// Puts the numbers of a set of locks in front, in ascending order with commas between, or a dash.
+/// Prepends the numbers of a set of locks, in ascending order with commas between, or a dash.
 #[inline(always)]
 fn put_held(line: &mut Buffer<'_>, held: Held)
     requires { 120 + length line.old ≤ ROOM }
@@ -30,7 +32,7 @@ fn put_held(line: &mut Buffer<'_>, held: Held)
     }
 }
 
-/// Puts a kind in front.
+/// Prepends a kind.
 #[inline(always)]
 fn put_kind(line: &mut Buffer<'_>, kind: Kind)
     requires { 7 + length line.old ≤ ROOM }
@@ -46,7 +48,7 @@ fn put_kind(line: &mut Buffer<'_>, kind: Kind)
     }
 }
 
-/// Puts an end in front.
+/// Prepends an end.
 #[inline(always)]
 fn put_end(line: &mut Buffer<'_>, end: End)
     requires { 29 + length line.old ≤ ROOM }
@@ -73,7 +75,7 @@ fn put_end(line: &mut Buffer<'_>, end: End)
     }
 }
 
-/// Puts the part of a line that tells a pc in front, where one is told.
+/// Prepends the part of a line that has a pc, if there is one.
 #[inline(always)]
 fn put_pc(line: &mut Buffer<'_>, pc: Option<u32>)
     requires { 12 + length line.old ≤ ROOM }
@@ -86,7 +88,7 @@ fn put_pc(line: &mut Buffer<'_>, pc: Option<u32>)
     }
 }
 
-/// Puts the line of a block in front, with this pc, or with none in the old form.
+/// Prepends the line of a block, with this pc, or with none in the old form.
 #[inline(always)]
 pub(crate) fn put_line(line: &mut Buffer<'_>, block: &Block, pc: Option<u32>)
     requires { LINE + length line.old ≤ ROOM }
@@ -111,7 +113,7 @@ pub(crate) fn put_line(line: &mut Buffer<'_>, block: &Block, pc: Option<u32>)
     line.put_str("block ");
 }
 
-/// Puts the lines of a few blocks in front, the last one first.
+/// Prepends the lines of a few blocks, the last one first.
 fn put_lines(lines: &mut Buffer<'_>, blocks: &[&Block])
     requires empty { lines.old ≡ [] }
     requires few { length blocks.now ≤ LINES }
@@ -125,9 +127,9 @@ fn put_lines(lines: &mut Buffer<'_>, blocks: &[&Block])
     }
 }
 
-/// Writes the lines of a history at the end of a text, of blocks that stand in different places.
-/// Some lines are appended at once. The capacity never shrinks, and the call fails only where room was
-/// missing.
+/// Appends the lines of a history, whose blocks are stored in different places, to a text. Several
+/// lines are appended at once. The capacity never shrinks, and the call fails only if memory runs
+/// out.
 pub fn push_lent(text: &mut String, history: &[&Block]) -> Result<(), AllocError>
     ensures bytes { OnOk result
         (string_bytes text.new ≡ string_bytes text.old

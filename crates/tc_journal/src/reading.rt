@@ -14,11 +14,11 @@ use crate::line::put_line;
 use crate::spelling::block_at_front;
 use std::alloc::{AllocError, Global};
 
-/// Why a text was not read.
+/// Why a text was refused.
 #[derive(Clone, Copy, Debug, PartialEq, Eq)]
 pub enum BadText {
     /// The line of this number, from 1, is the first that is not the line of a block with its
-    /// stamp. A last line without its end of line is wrong.
+    /// stamp. A last line without its newline is wrong.
     Line(u64),
     /// There was no memory for the blocks.
     OutOfMemory,
@@ -32,8 +32,8 @@ impl From<AllocError> for BadText {
     }
 }
 
-/// The block of a history with this stamp whose line stands at the front of a text, and what is
-/// behind that line. The line is written once more, to be compared.
+/// The block with this stamp whose line is a prefix of a text, and what follows that line. The line
+/// is printed again and compared.
 fn first_block<'a, B: Form>(
     room: &mut [u8; ROOM],
     text: &'a [u8],
@@ -55,7 +55,7 @@ fn first_block<'a, B: Form>(
     Some((B::of(block), behind))
 }
 
-/// The blocks of a text whose lines have the form of such blocks.
+/// The blocks of a text whose lines have this form.
 fn read_lines<B: Form>(alloc: Global, bytes: &[u8]) -> Result<Vec<B>, BadText>
     ensures ok { IfOk result (λ blocks. IsTextOf B.told bytes.now blocks.items) }
     ensures line { (n : ℕ) → IsErrOf result (BadText.Line n) → IsFirstWrong B.told bytes.now n }
@@ -80,13 +80,13 @@ fn read_lines<B: Form>(alloc: Global, bytes: &[u8]) -> Result<Vec<B>, BadText>
     Ok(blocks)
 }
 
-/// The history of a text, where the text is that of a history: one line for each block, each with
-/// its end of line, in order of their stamps 0, 1, 2 and so on, with numbers that fit a block.
+/// The history of a text, if it is one: one line for each block, each with its newline, in the
+/// order of their stamps 0, 1, 2 and so on, with numbers that fit a block.
 pub fn read(alloc: Global, bytes: &[u8]) -> Result<Vec<Block>, BadText>
     ensures ok { IfOk result (λ blocks. IsTextOf told bytes.now blocks.items) }
     ensures line { (n : ℕ) → IsErrOf result (BadText.Line n) → IsFirstWrong told bytes.now n }
 
-    // It gives up on no text, for want of memory apart.
+    // Complete: it accepts the text of every history, unless memory runs out.
     ensures read_back { (h : List BlockValue) → IsTextOf told bytes.now h
         → MatchResult result (λ blocks. blocks.items ≡ h) (λ e. e ≡ BadText.OutOfMemory) }
     ensures wrong { (n : ℕ) → IsFirstWrong told bytes.now n
@@ -95,13 +95,13 @@ pub fn read(alloc: Global, bytes: &[u8]) -> Result<Vec<Block>, BadText>
     read_lines(alloc, bytes)
 }
 
-/// The history of a text in the old form, whose lines have no pc. It reads that form as `read`
-/// reads the other.
+/// The history of a text in the old form, whose lines have no pc. Otherwise it is as
+/// `read`.
 pub fn read_v1(alloc: Global, bytes: &[u8]) -> Result<Vec<BlockV1>, BadText>
     ensures ok { IfOk result (λ blocks. IsTextOf told_v1 bytes.now blocks.items) }
     ensures line { (n : ℕ) → IsErrOf result (BadText.Line n) → IsFirstWrong told_v1 bytes.now n }
 
-    // It gives up on no text, for want of memory apart.
+    // Complete: it accepts the text of every history, unless memory runs out.
     ensures read_back { (h : List BlockV1Value) → IsTextOf told_v1 bytes.now h
         → MatchResult result (λ blocks. blocks.items ≡ h) (λ e. e ≡ BadText.OutOfMemory) }
     ensures wrong { (n : ℕ) → IsFirstWrong told_v1 bytes.now n

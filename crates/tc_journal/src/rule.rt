@@ -1,4 +1,4 @@
-//! By which rule a block ends.
+//! The rule for where a block ends.
 
 ghost use Rattle.std.specs.Prelude.{◌≡◌};
 ghost use Rattle.tc_journal.specs.Rule.{end_rule};
@@ -7,7 +7,7 @@ use crate::block::End;
 use tc_isa::fault::Fault;
 use tc_isa::limits::MAX_TURNS;
 
-/// How a turn of a thread came out.
+/// How a step of a thread came out.
 #[derive(Clone, Copy, Debug, PartialEq, Eq)]
 pub enum Outcome {
     /// The thread goes on, after an instruction that is none of those below.
@@ -24,8 +24,8 @@ pub enum Outcome {
     Spent,
 }
 
-/// How a block ends whose last turn came out so, if it ends there. `turns` counts that last turn;
-/// `next` is the lock that the thread's next turn would take, where it would take one.
+/// How a block ends after a last step with this outcome, if it ends there. `turns` counts that
+/// step; `next` is the lock that the thread's next step would take, if any.
 pub fn end_of(outcome: Outcome, turns: u32, next: Option<u32>) -> Option<End>
     ensures { result ≡ end_rule outcome turns next }
 {

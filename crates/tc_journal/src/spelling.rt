@@ -1,7 +1,7 @@
 //! What a printed line may mean.
 //!
-//! The functions here are sure to find the block of a line that a block has. Of any other line
-//! they may make a block too: `reading` prints the block again, and compares.
+//! The functions here find the block of every line that is printed for a block. They may also make
+//! a block of another line: `reading` prints the block again, and compares.
 
 ghost use Rattle.std.specs.Prelude.{◌≡◌, ◌==◌, ℕ, ◌^◌, ◌<◌, ◌≤◌, ◌++◌, is_some, List, Option, Some, IfSome, MatchBool, codes, decimal, length, position};
 ghost use Rattle.tc_isa.specs.Sets.{locks_of};
@@ -22,14 +22,14 @@ use tc_isa::fault::Fault;
 use tc_isa::held::Held;
 use tc_isa::limits::MAX_TURNS;
 
-/// The place of the first such byte.
+/// The index of the first such byte.
 fn place_of(text: &[u8], stop: u8) -> Option<usize>
     ensures { result ≡ position (λ byte. byte == stop) text.now }
 {
     text.iter().position(|byte| *byte == stop)
 }
 
-/// What stands before the first such byte, or all, and what stands behind it.
+/// What comes before the first such byte, or all, and what follows it.
 #[tactic(auto, unfolding(crate::specs::Spelling::before, crate::specs::Spelling::behind))]
 fn split_at_byte(text: &[u8], stop: u8) -> (&[u8], &[u8])
     ensures before { result.0.now ≡ before stop text.now }
@@ -42,7 +42,7 @@ fn split_at_byte(text: &[u8], stop: u8) -> (&[u8], &[u8])
     }
 }
 
-/// The value behind the name at the front, and what follows.
+/// The value behind the name at the start, and what follows.
 fn field(text: &[u8]) -> (&[u8], &[u8])
     ensures value { result.0.now ≡ value_of text.now }
     ensures rest { result.1.now ≡ rest_of text.now }
@@ -87,7 +87,7 @@ fn is_dash(word: &[u8]) -> bool
     word == b"-".as_slice()
 }
 
-/// The locks of a word with commas between them, or a dash for none.
+/// The locks of a list with commas between them, or a dash for none.
 fn held(word: &[u8]) -> Option<Held>
     ensures value { (held : ℕ)
         → held < 2 ^ 32 → word.now ≡ spec.numbers_text (locks_of held) → result ≡ Some held }
@@ -144,8 +144,8 @@ fn hex_word(word: &[u8]) -> Option<u32>
     Some(u32::from_be_bytes(bytes))
 }
 
-/// The pc at the front of the part of a line behind its worker, where one is told, else 0; and what
-/// follows it.
+/// The pc at the start of what follows a line's worker, if the form has one, else 0; and the
+/// rest.
 fn pc_and_rest(text: &[u8], has_pc: bool) -> (Option<u32>, &[u8])
     ensures { (pc : Option ℕ) (more : List ℕ) → is_some pc ≡ has_pc
         → IfSome pc (λ n. n < 2 ^ 32) → text.now ≡ from_pc pc more
@@ -158,7 +158,7 @@ fn pc_and_rest(text: &[u8], has_pc: bool) -> (Option<u32>, &[u8])
     (hex_word(word), rest)
 }
 
-/// A block whose line may stand at the front of a text, with a pc or in the old form.
+/// A block whose line may be a prefix of a text, with a pc or in the old form.
 pub(crate) fn block_at_front(text: &[u8], has_pc: bool) -> Option<Block>
     ensures every { (t : Told) (more : List ℕ)
         → IsTold t → is_some t.pc ≡ has_pc → text.now ≡ spec.told_line t ++ more

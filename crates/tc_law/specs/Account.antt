@@ -1,4 +1,4 @@
--- A guest's image and terms, a history, the packages of all threads and the states of all locks, as one thing.
+-- A guest's image and options, a history, the packages of all threads and the states of all locks, as one value.
 use Rattle.std.specs.Prelude.{ℕ, List, [], ◌∷◌, ◌++◌, length, Option}
 use Rattle.tc_elf.specs.Shown.{Shown}
 use Rattle.tc_journal.specs.declared.block.Block.{Block}
@@ -17,7 +17,7 @@ pub record Account : Type 0 where
 abbrev pub IsLawful : Account → Type 0
 IsLawful a = Lawful a.image a.fuel a.limit a.history a.packages a.states
 
--- with the block b of the package p, sealed by this worker, at the end of the history, and p and its locks in their places
+-- with the block b of the package p, sealed by this worker, appended to the history, and p and its locks updated
 abbrev pub with_block : Account → Block → PackageView → ℕ → Account
 with_block a b p worker =
     record a {
@@ -26,6 +26,6 @@ with_block a b p worker =
       states = with_states (locks_in (with_seal (length a.history) worker p)) a.states;
     }
 
--- who owns lock k in the history's end
+-- who owns lock k at the history's end
 abbrev pub owner_in : Account → ℕ → Option ℕ
 owner_in a k = owner_after a.image a.fuel a.history k

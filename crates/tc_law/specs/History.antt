@@ -1,4 +1,4 @@
--- Threads and lock states beside a history, and a block at its end.
+-- Threads and lock states beside a history, and a block appended to it.
 use Rattle.std.specs.Prelude.{◌≡◌, ◌≢◌, ℕ, false, List, [], ◌∷◌, ◌++◌, Some}
 use Rattle.tc_isa.specs.Sets.{has}
 use Rattle.tc_elf.specs.Shown.{Shown}
@@ -13,14 +13,14 @@ use Rattle.tc_context.specs.Locks.{lock_in}
 use Rattle.tc_context.specs.Whole.{thread_in}
 use Rattle.tc_context.specs.View.{PackageView}
 
--- the package is that of thread t, which is as m has it, and its log has the thread's blocks
+-- the package is that of thread t, which agrees with m, and its log has the thread's blocks
 pub record ThreadFollows (image : Shown) (h : List Block) (m : State) (t : ℕ) (p : PackageView) : Type 0 where
   pub of : p.image ≡ image
   pub number : p.context.thread ≡ t
   pub thread : thread_in p.context ≡ m.threads t
   pub log : p.log ≡ of_thread h t
 
--- the lock state is lock k of m, whose owner doesn't count, and its sealed entries are those of the history
+-- the lock state is lock k of m, except the owner, and its sealed entries are those of the history
 pub record StateFollows (image : Shown) (fuel limit : ℕ) (h : List Block) (m : State) (k : ℕ) (l : LockView) : Type 0 where
   pub of : l.journal.image ≡ image
   pub number : l.number ≡ k
@@ -28,12 +28,12 @@ pub record StateFollows (image : Shown) (fuel limit : ℕ) (h : List Block) (m :
   pub entries : l.journal.sealed ≡ entries_by image fuel h k
   pub bound : l.journal.limit ≡ limit
 
--- the package and each lock state in it are as the history h leaves them, which leads to m
+-- the package and each lock state in it agree with the history h, which leads to m
 pub record Follows (image : Shown) (fuel limit : ℕ) (h : List Block) (m : State) (p : PackageView) : Type 0 where
   pub thread : ThreadFollows image h m p.context.thread p
   pub states : (k : ℕ) (l : LockView) → lock_in p.context.locks k ≡ Some l → StateFollows image fuel limit h m k l
 
--- the history h, which leads to m, with the block b at its end leads to `to`: nothing but the block's thread and locks changed
+-- the history h, which leads to m, with the block b appended leads to `to`: only the block's thread and locks changed
 pub record Grows (image : Shown) (fuel : ℕ) (h : List Block) (m : State) (b : Block) (to : State) : Type 0 where
   pub tells : Tells image fuel (h ++ b ∷ []) to
   pub runs : Runs image m b.thread b.turns b.end to

@@ -1,4 +1,4 @@
-//! What a block keeps of one package beside a history, and of all packages and lock states.
+//! What a block preserves: for one package beside a history, and for all packages and lock states.
 
 ghost use Rattle.std.specs.Prelude.{◌≡◌, ℕ, ◌<◌, ◌^◌, ◌∷◌, ◌++◌, [], Bool, true, List, Some, None, length};
 ghost use Rattle.tc_isa.specs.Sets.{has};
@@ -16,11 +16,11 @@ ghost use Rattle.tc_law.specs.History.{Follows, Grows};
 ghost use Rattle.tc_law.specs.Lawful.{IsLimited, StandsAt, IsAmong, AreFresh, AreStrict, with_states};
 ghost use Rattle.tc_law.specs.Account.{Account, IsLawful, with_block, owner_in};
 
-/// A package p that a history leaves runs a block and is v. Whatever stamp and worker it is sealed
-/// with, the history with the block at its end tells a run again, nothing but the block's thread
-/// and locks changes, and the sealed package is as the longer history leaves it. The history obeys
-/// the batch limit with that block, where the batch rule allows the block's worker. Where each lock
-/// state in the package is strict, sections stay passed on to other threads. A law: it does nothing
+/// A package p that agrees with a history runs a block and is v. Whatever stamp and worker it is
+/// sealed with: the history with the block appended is a trace, only the block's thread and locks
+/// change, and the sealed package agrees with the longer history. That history obeys the batch limit
+/// if the batch rule allows the block's worker. If each lock state in the package is strict, sections
+/// are still passed on to other threads. A lemma: the function has no effect when it is called.
 /// when it is called.
 pub fn follow()
     ensures grows { (image : Shown) (fuel limit : ℕ) (h : List Block) (m : State)
@@ -44,14 +44,14 @@ pub fn follow()
         → (k : ℕ) → PassesOn k (of_lock (h ++ block_sealed ran stamp worker ∷ []) k) }
 {}
 
-/// The law over a history, the packages of all threads and the states of all locks. It holds at the
-/// start, of packages and lock states in which nothing ran. A block that runs in one of the packages
-/// keeps it, once it is sealed with the length of the history as its stamp and stands at the end,
-/// whatever the packages of the other threads and the other locks are; and strict lock states stay
-/// strict. Where it holds, the logs
-/// determine the history; the history is short, so that a count of its blocks in 64 bits never
-/// wraps; nobody owns a lock whose last sealed block ended a section of it; and a thread owns the
-/// locks that it holds. A law: it does nothing when it is called.
+/// The invariant over a history, the packages of all threads and the states of all locks.
+/// It holds at the start, when nothing has run. A block that runs in a package preserves
+/// it once it is sealed with the history's length as its stamp and appended, whatever the
+/// other packages and locks are; strict lock states stay strict. It implies: the logs
+/// determine the history; the history is short, so that a count of its blocks in 64 bits
+/// never wraps; nobody owns a lock whose last sealed block ended a section of it; a
+/// thread owns the locks that it holds. A lemma: the function has no effect when it is
+/// called.
 pub fn keep()
     ensures begin { (a : Account)
         → AreFresh a.image a.fuel a.limit a.packages a.states

@@ -1,8 +1,8 @@
-//! Lemmas that the proofs of several crates use and the standard library has not.
+//! Lemmas that the proofs of several crates share and the standard library lacks.
 //!
-//! There is no code here and no contract. What is proved here is of lists that are read by place,
-//! and of tests; nothing of threads, locks or blocks occurs in it.
+//! There is no code and no contract here. The lemmas are about lists that are read by index and
+//! about boolean tests; none mentions threads, locks or blocks.
 //!
-//! - `proofs/Lists.antt`: what stands at a place of a list, of one with an item more, and of one
-//!   that a function was mapped over. `proofs/Tests.antt`: answers of tests.
+//! - `proofs/Lists.antt`: the item at an index of a list, of a list with one more item, and of a
+//!   mapped list. `proofs/Tests.antt`: values of boolean tests.
 #![tactic(auto)]

@@ -1,4 +1,4 @@
--- A history with which nothing is wrong, as a replay has it.
+-- An accepted history, as a replay has it.
 use Rattle.std.specs.Prelude.{◌≡◌, ℕ, ◌<◌, ◌≤◌, true, List, length}
 use Rattle.tc_isa.specs.Sets.{has}
 use Rattle.tc_isa.specs.declared.limits.TheConstants.{MAX_TURNS}
@@ -18,7 +18,7 @@ pub record IsReplayed (o : Options) (r : Replay) : Type 0 where
   pub image : r.checker.image ≡ r.image
   pub terms : r.checker.terms ≡ o
 
--- what a profile asks of a block: its thread and its locks are those of the image
+-- what a profile requires of a block: its thread and its locks are those of the image
 pub record CanBeAdded (image : Shown) (b : Block) : Type 0 where
   pub thread : b.thread < length image.entries
   pub locks : (k : ℕ) → has b.held k ≡ true → k < length image.guards

@@ -10,7 +10,7 @@ use Rattle.tc_main.specs.declared.status.Status.{Status}
 use Rattle.tc_main.specs.declared.status.Status.TheVariants.{Done, Usage, ReadFault, Refused, WriteFault, OutOfMemory, Rejected}
 use Rattle.tc_main.specs.declared.words.Command.{Command}
 
--- what the bytes that were read for what is asked come to: a text, a refusal or a rejection with its line
+-- the verdict on the bytes that were read for what is asked: a text, or a refusal or rejection with its line
 abbrev pub Verdict : Command → List ℕ → List ℕ → Status → Type 0
 Verdict asked bytes text Done = IsTextOf asked bytes text
 Verdict asked bytes text (Refused k) = (r : NamedRefusal) × (refusal_of (needs_of asked) bytes ≡ Some r) × (k ≡ r.number) × (text ≡ refused_line r)
@@ -20,7 +20,7 @@ Verdict asked bytes text WriteFault = ⊥
 Verdict asked bytes text OutOfMemory = ⊥
 Verdict asked bytes text (Rejected r) = Rejects (needs_of asked) bytes r × (text ≡ rejected_line r)
 
--- the words and the source come to this status, with a text of which P holds
+-- the arguments and the source give this status, with a text that satisfies P
 abbrev pub Comes : List (List ℕ) → Stream → Stream → (List ℕ → Type 0) → Status → Type 0
 Comes words before now P Done = (text : List ℕ) × IsWanted words before now text × P text
 Comes words before now P Usage = AskForNothing words × (now ≡ before) × P usage_line
@@ -30,7 +30,7 @@ Comes words before now P WriteFault = ⊥
 Comes words before now P OutOfMemory = ⊥
 Comes words before now P (Rejected r) = IsRejectedFor words before now r × P (rejected_line r)
 
--- how the program ends: what the words and the source come to, and how much of the text was written
+-- how the program ends: the answer to the arguments and the source, and how much of the text was written
 abbrev pub Ends : List (List ℕ) → Stream → Stream → Stream → Stream → Status → Type 0
 Ends words before now had has Done = Comes words before now (Gives had has) Done
 Ends words before now had has Usage = Comes words before now (Writes had has) Usage
@@ -42,7 +42,7 @@ Ends words before now had has (Rejected r) = Comes words before now (Writes had 
 
 -- ---- the process
 
--- the program was given some words and ended so, and the process ends with the number of its status
+-- the program was given some arguments and ended so, and the process ends with the number of its status
 pub record EndsProcess (before now had has : Stream) (code : ℕ) : Type 0 where
   pub words : List (List ℕ)
   pub status : Status

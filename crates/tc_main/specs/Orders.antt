@@ -7,11 +7,11 @@ use Rattle.tc_main.specs.declared.order.Order.{Order}
 use Rattle.tc_main.specs.declared.order.Order.TheVariants.{Entry, Nodes}
 use Rattle.tc_main.specs.declared.order.TheConstants.{MAX_PASSES}
 
--- a run by so many workers can have this order: each node has a worker, and the bound is not too great
+-- this order is possible for so many workers: each node has a worker, and the bound is not too great
 abbrev pub IsOrderFor : ℕ → Order → Type 0
 IsOrderFor workers Entry = Unit {0}
 IsOrderFor workers (Nodes nodes bound) = (1 ≤ nodes) × (nodes ≤ workers) × (bound ≤ MAX_PASSES)
 
--- the rows of seats are those of workers that belong to so many nodes: each seat of worker w is on node w modulo their number
+-- the rows of seats are those of workers on so many nodes: each seat of worker w is on node w modulo their number
 pub record AreOnNodes {X : Type 0} (nodes : ℕ) (seats : X → List NodeSeatView) (rows : List X) : Type 0 where
   pub each : (w : ℕ) (row : X) → get_elem? rows w ≡ some row → All (λ (s : NodeSeatView). s.node ≡ w % nodes) (seats row)

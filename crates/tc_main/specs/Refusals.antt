@@ -18,7 +18,7 @@ too_large = record { number = 0; name = codes "TooLarge" }
 abbrev pub short_input : NamedRefusal
 short_input = record { number = 17; name = codes "ShortInput" }
 
--- the guest's file has this against it
+-- the refusal of the guest's file
 abbrev pub named : Refusal → NamedRefusal
 named reason = record { number = refusal_number reason; name = refusal_name reason }
 
@@ -28,13 +28,13 @@ least_of Nothing = 0
 least_of GuestFile = 0
 least_of (FileAndHistory size o) = size
 
--- the first reason against the guest's file, if one is needed
+-- the first reason to refuse the guest's file, if one is needed
 abbrev pub file_refusal : Needs → List ℕ → Option Refusal
 file_refusal Nothing bytes = None
 file_refusal GuestFile bytes = refusal bytes
 file_refusal (FileAndHistory size o) bytes = refusal (take size bytes)
 
--- why a source that has these bytes is refused, by the first reason that holds
+-- why a source with these bytes is refused, by the first reason that applies
 abbrev pub refusal_of : Needs → List ℕ → Option NamedRefusal
 refusal_of needs bytes =
     if nat_lt (most_of needs) (length bytes) then Some too_large

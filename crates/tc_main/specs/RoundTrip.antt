@@ -7,8 +7,8 @@ use Rattle.tc_journal.specs.declared.block.Block.{Block}
 use Rattle.tc_main.specs.Words.{AskFor, FileAndHistory, most_of}
 use Rattle.tc_main.specs.declared.words.Command.TheVariants.{Replay}
 
--- the words ask for a replay with these options, and the source tells that it has this guest's file and behind it the lines of this
--- history, no more bytes in all than are read
+-- the arguments ask for a replay with these options; the source is known to have this guest's file
+-- followed by the lines of this history, in all no more bytes than are read
 pub record IsGivenBack (words : List (List ℕ)) (o : Options) (file : List ℕ) (h : List Block) (source : Stream) : Type 0 where
   pub asks : AskFor words (Replay (length file) o)
   pub told : source.bytes ≡ Some (file ++ history_text h)

@@ -36,34 +36,34 @@ rejected_line r = codes "rejected " ++ decimal r.line ++ codes " " ++ decimal (r
 
 -- ---- what was read, by the source before and after the call
 
--- the source was read to its end, and had these bytes, which are no more than are read for this
+-- the source was read to its end, and had these bytes, which are within the limit
 pub record ReadsAll (needs : Needs) (before now : Stream) (bytes : List ℕ) : Type 0 where
   pub few : length bytes ≤ most_of needs
   pub read : TakesAll before now bytes
 
--- these bytes were read for what is asked; where it needs none, none were
+-- these bytes were read for what is asked; if it needs none, none were
 abbrev pub HasRead : Needs → Stream → Stream → List ℕ → Type 0
 HasRead Nothing before now bytes = (now ≡ before) × (bytes ≡ [])
 HasRead GuestFile before now bytes = ReadsAll GuestFile before now bytes
 HasRead (FileAndHistory size o) before now bytes = ReadsAll (FileAndHistory size o) before now bytes
 
--- no read failed, and these bytes were read: all of the source's, or, where it has more than are read for this, as many and one
+-- no read failed, and these bytes were read: all of the source's, or, if it has more than the limit, one more than that
 pub record ReadsEnough (needs : Needs) (before now : Stream) (bytes : List ℕ) : Type 0 where
   pub read : Takes before now bytes
   pub most : length bytes ≤ most_of needs + 1
   pub end : length bytes ≤ most_of needs → IsAtEnd now.bytes
 
--- the words ask for something that is read, and a read failed, behind no more bytes than are read for it
+-- the arguments ask for something that is read, and a read failed, after no more bytes than are read for it
 abbrev pub FailsToRead : List (List ℕ) → Stream → Stream → Type 0
 FailsToRead words before now = (needs : Needs) × AskToRead words needs × FailsWithin before now (most_of needs)
 
--- where the words ask for something that is read, no read failed, and no more was read than may be for it and a byte behind it
+-- if the arguments ask for something that is read, no read failed, and at most one byte more than the limit was read
 abbrev pub ReadsNoFurther : List (List ℕ) → Stream → Stream → Type 0
 ReadsNoFurther words before now = (needs : Needs) → AskToRead words needs → TakesAtMost before now (most_of needs + 1)
 
 -- ---- refusals
 
--- the words ask for something that is read, and what was read of the source for it is refused so
+-- the arguments ask for something that is read, and what was read of the source is refused for this reason
 pub record IsRefusedFor (words : List (List ℕ)) (before now : Stream) (r : NamedRefusal) : Type 0 where
   pub needs : Needs
   pub bytes : List ℕ
@@ -73,13 +73,13 @@ pub record IsRefusedFor (words : List (List ℕ)) (before now : Stream) (r : Nam
 
 -- ---- rejections
 
--- the history, if one is needed, is rejected so
+-- the history, if one is needed, is rejected like this
 abbrev pub Rejects : Needs → List ℕ → Rejection → Type 0
 Rejects Nothing bytes r = ⊥
 Rejects GuestFile bytes r = ⊥
 Rejects (FileAndHistory size o) bytes r = IsRejection size o bytes r
 
--- the words ask for a history, no read failed, and it is rejected so
+-- the arguments ask for a history, no read failed, and it is rejected like this
 pub record IsRejectedFor (words : List (List ℕ)) (before now : Stream) (r : Rejection) : Type 0 where
   pub asked : Command
   pub bytes : List ℕ
@@ -105,7 +105,7 @@ pub record IsSummaryOf (rounds : ℕ) (o : Options) (text : List ℕ) : Type 0 w
   pub legal : IsLegalRun (generated rounds) o results
   pub printed : text ≡ summary_text rounds results
 
--- the text is what is asked for, of the bytes that were read for it. The report is the same in each order of waiters
+-- the text is what is asked for, given the bytes that were read. The report is the same for each order of waiters
 abbrev pub IsTextOf : Command → List ℕ → List ℕ → Type 0
 IsTextOf (Run order o) bytes text = IsReport o bytes text
 IsTextOf (Generate rounds) bytes text = text ≡ generated_file rounds
@@ -113,7 +113,7 @@ IsTextOf (Demo rounds o) bytes text = IsSummaryOf rounds o text
 IsTextOf (Replay size o) bytes text = IsReplayReport size o bytes text
 IsTextOf (Profile size o) bytes text = (run : HasRun size o bytes) × (text ≡ profile_text run.image run.history)
 
--- the text is what the words ask for, of what was read of the source
+-- the text is what the arguments ask for, given what was read of the source
 pub record IsWanted (words : List (List ℕ)) (before now : Stream) (text : List ℕ) : Type 0 where
   pub asked : Command
   pub bytes : List ℕ
@@ -129,8 +129,8 @@ Accepts Nothing bytes = Unit {0}
 Accepts GuestFile bytes = Unit {0}
 Accepts (FileAndHistory size o) bytes = HasRun size o bytes
 
--- the source tells its bytes and gives them without a fault, they are not refused, and they have a history with which nothing is
--- wrong, if one is needed
+-- the contents of the source are known, no read fails, the bytes are not refused, and they have an
+-- accepted history, if one is needed
 pub record HasFile (needs : Needs) (before now : Stream) : Type 0 where
   pub bytes : List ℕ
   pub told : before.bytes ≡ Some bytes
@@ -138,13 +138,13 @@ pub record HasFile (needs : Needs) (before now : Stream) : Type 0 where
   pub accepted : Accepts needs bytes
   pub quiet : ¬ Rose before now
 
--- where something is to be read, it has a file
+-- if something is to be read, the source has it
 abbrev pub HasInput : Needs → Stream → Stream → Type 0
 HasInput Nothing before now = Unit {0}
 HasInput GuestFile before now = HasFile GuestFile before now
 HasInput (FileAndHistory size o) before now = HasFile (FileAndHistory size o) before now
 
--- the words ask for what can be done
+-- the arguments ask for what can be done
 pub record CanBeDone (words : List (List ℕ)) (before now : Stream) : Type 0 where
   pub asked : Command
   pub asks : AskFor words asked
@@ -152,7 +152,7 @@ pub record CanBeDone (words : List (List ℕ)) (before now : Stream) : Type 0 wh
 
 -- ---- what is to be refused
 
--- the words ask for something of a source that tells its bytes without a fault
+-- the arguments ask for something from a source whose contents are known, and no read fails
 pub record TellsBytes (words : List (List ℕ)) (before now : Stream) : Type 0 where
   pub needs : Needs
   pub bytes : List ℕ
@@ -160,7 +160,7 @@ pub record TellsBytes (words : List (List ℕ)) (before now : Stream) : Type 0 w
   pub told : before.bytes ≡ Some bytes
   pub quiet : ¬ Rose before now
 
--- the words, or the bytes of the source, are to be refused with this status
+-- the arguments, or the bytes of the source, are to be refused with this status
 abbrev pub MustRefuse : List (List ℕ) → Stream → Stream → Status → Type 0
 MustRefuse words before now Usage = AskForNothing words
 MustRefuse words before now (Refused k) =
@@ -174,7 +174,7 @@ MustRefuse words before now (Rejected r) =
 
 -- ---- what is written, by the sink before and after the call
 
--- the text was written whole, or a front of it before the sink failed
+-- the text was written whole, or a prefix of it before the sink failed
 abbrev pub Writes : Stream → Stream → List ℕ → Type 0
 Writes had has text = Gives had has text ⊎ FailsAmid had has text
 

@@ -1,5 +1,5 @@
--- The words of the command line: `run W F B`, `gen N`, `demo N W`, `replay N W F B`, `nodes G K W F B` or
--- `profile N W F B`, each number in decimal digits without a leading zero.
+-- The command-line arguments: `run W F B`, `gen N`, `demo N W`, `replay N W F B`, `nodes G K W F B`
+-- or `profile N W F B`, each number in decimal digits without a leading zero.
 use Rattle.std.specs.Prelude.{◌≡◌, ◌≢◌, ℕ, ◌+◌, ◌≤◌, List, [], ◌∷◌, length, codes, decimal}
 use Rattle.tc_isa.specs.declared.options.Options.{Options}
 use Rattle.tc_build.specs.declared.generate.TheConstants.{MAX_ROUNDS}
@@ -11,11 +11,11 @@ use Rattle.tc_main.specs.declared.words.Command.TheVariants.{Run, Generate, Demo
 
 -- ---- the forms
 
--- the words of the options of a run
+-- the arguments of the options of a run
 abbrev pub option_words : Options → List (List ℕ)
 option_words o = decimal o.workers ∷ decimal o.fuel ∷ decimal o.limit ∷ []
 
--- the words by which something is asked for
+-- the arguments that ask for something
 abbrev pub spelling : Command → List (List ℕ)
 spelling (Run Entry o) = codes "run" ∷ option_words o
 spelling (Run (Nodes nodes bound) o) = codes "nodes" ∷ decimal nodes ∷ decimal bound ∷ option_words o
@@ -32,18 +32,18 @@ IsWithinLimits (Demo rounds o) = (1 ≤ rounds) × (rounds ≤ MAX_ROUNDS) × (o
 IsWithinLimits (Replay size o) = (1 ≤ size) × (size ≤ MAX_FILE)
 IsWithinLimits (Profile size o) = (1 ≤ size) × (size ≤ MAX_FILE)
 
--- the words ask for this
+-- the arguments ask for this
 abbrev pub AskFor : List (List ℕ) → Command → Type 0
 AskFor words asked = IsWithinLimits asked × (words ≡ spelling asked)
 
--- the words have no form
+-- the arguments have no form
 abbrev pub AskForNothing : List (List ℕ) → Type 0
 AskForNothing words = (asked : Command) → ¬ AskFor words asked
 
 -- ---- what is read
 
--- what is needed of the source: nothing, a guest's file, or a guest's file of so many bytes and behind it the text of a history of it,
--- which was run with these options
+-- what is needed from the source: nothing, a guest's file, or a guest's file of so many bytes
+-- followed by the text of a history of a run with these options
 pub data Needs : Type 0 where
   Nothing : Needs
   GuestFile : Needs
@@ -67,13 +67,13 @@ most_of (FileAndHistory size o) = size + 268435456
 abbrev pub FitsInput : Command → List ℕ → Type 0
 FitsInput asked bytes = length bytes ≤ most_of (needs_of asked)
 
--- the words ask for something for which this is needed of the source
+-- the arguments ask for something that needs this from the source
 pub record AskToRead (words : List (List ℕ)) (needs : Needs) : Type 0 where
   pub asked : Command
   pub asks : AskFor words asked
   pub needs_are : needs_of asked ≡ needs
   pub some : needs ≢ Nothing
 
--- the words ask for something for which the source is read
+-- the arguments ask for something for which the source is read
 abbrev pub Reads : List (List ℕ) → Type 0
 Reads words = (needs : Needs) × AskToRead words needs

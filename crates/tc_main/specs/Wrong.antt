@@ -1,4 +1,4 @@
--- Why there is no text for what is asked, by the bytes that were read for it.
+-- Why there is no text for what is asked, given the bytes that were read for it.
 use Rattle.std.specs.Prelude.{◌≡◌, ◌≢◌, ℕ, ◌<◌, ◌≤◌, List, length, take, Some}
 use Rattle.tc_isa.specs.declared.options.Options.{Options}
 use Rattle.tc_elf.specs.Loading.{refusal}
@@ -28,7 +28,7 @@ IsWrongText text (File reason) = ⊥
 IsWrongText text (History r) = (r.reason ≡ reason.Text) × IsFirstWrong told text r.line
 IsWrongText text OutOfMemory = Unit {0}
 
--- a guest's file with a history behind it is wrong
+-- a guest's file followed by a history is wrong
 abbrev pub IsWrongInput : ℕ → Options → List ℕ → Wrong → Type 0
 IsWrongInput size o bytes Short = length bytes < size
 IsWrongInput size o bytes (File reason) = (size ≤ length bytes) × IsWrongFile (take size bytes) (File reason)

@@ -1,4 +1,4 @@
-//! What the words and the source come to: a status, and the text that goes with it, which is written.
+//! The answer to the arguments and the source: a status, and the text that is written with it.
 
 ghost use Rattle.std.specs.Prelude.{◌≡◌, ◌≢◌, ℕ, ◌+◌, List, IfNone, IfOk, IfErr, IfSome, OnErr};
 ghost use Rattle.tc_io.specs.Taken.{TakesAtMost};
@@ -30,7 +30,7 @@ use tc_report::written::{Written, write_text};
 use tc_seats::QueueMaker;
 use tc_workers::gate::Gate;
 
-/// The line that says what the program can be asked for.
+/// The usage line of the program.
 fn usage(alloc: Global) -> Result<Vec<u8>, AllocError>
     ensures { IfOk result (λ text. text.items ≡ usage_line) }
 {
@@ -39,14 +39,14 @@ fn usage(alloc: Global) -> Result<Vec<u8>, AllocError>
     Vec::from_slice(alloc, line.as_bytes())
 }
 
-/// A status, and how writing the text that goes with it went. Want of memory goes with no text.
+/// A status, and how writing its text went. Running out of memory has no text.
 #[derive(Drop)]
 pub(crate) struct Answer {
     pub status: Status,
     pub written: Written,
 }
 
-/// What was read is refused, for the reason with this number and name.
+/// The input is refused, for the reason with this number and name.
 fn refused<K: Sink>(
     alloc: Global,
     number: u32,
@@ -83,7 +83,7 @@ fn rejected<K: Sink>(alloc: Global, rejected: Rejected, sink: &mut K) -> Result<
     })
 }
 
-/// The answer where there is no text for what is asked.
+/// The answer if there is no text for what is asked.
 fn answer_wrong<K: Sink>(alloc: Global, wrong: Wrong, sink: &mut K) -> Result<Answer, AllocError>
     ensures answer { (asked : AnyCommand) (bytes : List ℕ) → IsWrong asked bytes wrong
         → IfOk result (λ a. (text : List ℕ) × Verdict asked bytes text a.status
@@ -98,8 +98,8 @@ fn answer_wrong<K: Sink>(alloc: Global, wrong: Wrong, sink: &mut K) -> Result<An
     }
 }
 
-/// Writes the text for what is asked, of the bytes that were read for it. All memory that it takes is
-/// taken before any of it is written.
+/// Writes the text for what is asked, from the bytes that were read for it. All memory for it is
+/// allocated before any of it is written.
 fn write_asked<R: Threads + Wait + Sync, M: QueueMaker, G: Gate, K: Sink>(
     rt: &R,
     alloc: Global,
@@ -143,7 +143,7 @@ where
     }
 }
 
-/// What the bytes that were read for what is asked come to.
+/// The answer to the bytes that were read for what is asked.
 fn answer_bytes<R: Threads + Wait + Sync, M: QueueMaker, G: Gate, K: Sink>(
     rt: &R,
     alloc: Global,
@@ -184,7 +184,7 @@ fn limit_of(asked: Command) -> Option<usize>
     }
 }
 
-/// What the source comes to for what is asked.
+/// The answer to the source for what is asked.
 pub(crate) fn answer_asked<R: Threads + Wait + Sync, S: Source, M: QueueMaker, G: Gate, K: Sink>(
     rt: &R,
     alloc: Global,
@@ -218,7 +218,7 @@ where
     }
 }
 
-/// What the words and the source come to. Where nothing is to be read for them, nothing is.
+/// The answer to the arguments and the source. If they need nothing from the source, nothing is read.
 pub(crate) fn answer_words<R: Threads + Wait + Sync, S: Source, G: Gate, K: Sink>(
     rt: &R,
     alloc: Global,

@@ -11,8 +11,8 @@ ghost use Rattle.tc_profile.specs.Profile.{lock_profile, thread_profile};
 ghost use Rattle.tc_replay.specs.Rejected.{IsCompleteRun};
 ghost use Rattle.tc_report.specs.Legal.{guarded_in};
 
-/// What a profile and a report say of the same history, one that tells a complete run of a guest's
-/// file. A law: it does nothing when it is called.
+/// How a profile and a report of the same history agree, if it is a trace of a complete run of a
+/// guest's file. A lemma: the function has no effect when it is called.
 pub fn counts()
     // As many sections of each lock.
     ensures sections { (file : List ℕ) (image : Shown) (o : Options) (h : List Block) (lock : ℕ)

@@ -20,7 +20,7 @@ use tc_report::summary::summary;
 use tc_seats::QueueMaker;
 use tc_workers::gate::Gate;
 
-/// The image of the generator's guest, as its file is loaded: nothing refuses it.
+/// The image of the generator's guest, as its file is loaded; it is never refused.
 fn generated_image(alloc: Global, rounds: u32) -> Result<Image, AllocError>
     requires some { 1 ≤ rounds }
     requires most { rounds ≤ MAX_ROUNDS }
@@ -34,7 +34,7 @@ fn generated_image(alloc: Global, rounds: u32) -> Result<Image, AllocError>
     }
 }
 
-/// Runs the generator's guest, and answers the summary of the run.
+/// Runs the generator's guest, and returns the summary of the run.
 pub(crate) fn run_summary<R: Threads + Wait + Sync, M: QueueMaker, G: Gate>(
     rt: &R,
     alloc: Global,

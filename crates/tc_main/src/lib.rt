@@ -1,28 +1,28 @@
-//! The program as a library: from the words of the command line and the bytes of a guest file to
-//! the printed report.
+//! The program as a library: from the command-line arguments and the bytes of a guest file to the
+//! printed report.
 //!
-//! `top::tclocks` does all that the program does. Its contract promises to whoever runs it that the
-//! report of a run is written only of a legal run of the guest that the source had, a summary only of
-//! one of the generator's guest, and the report or the profile of a history only of one that tells a
-//! complete run; and it says of every other status why it comes and what was written. Which runs are
-//! legal is one word of the contract, `IsLegalRun`, and which histories are replayed another,
-//! `IsCompleteRun`, which asks less: the texts do not depend on them.
+//! `top::tclocks` does all that the program does. Promises: the report of a run is written only for
+//! a legal run of the source's guest, a summary only for one of the generator's guest, and the
+//! report or profile of a history only if it is a trace of a complete run. For every other status
+//! the contract says why it comes and what was written. `IsLegalRun` defines the legal runs.
+//! `IsCompleteRun` defines the histories that are replayed; it requires less, since the texts do
+//! not depend on the rest.
 //!
-//! - `words`: what the words of the command line ask for. `order`: in which order the waiters of a
-//!   lock are served. `run`: a run by workers, from the image to the report. `nodes`: a run by workers
-//!   that belong to nodes. `made`: a run with the queues that a maker makes. `own`: runs as programs
-//!   of one's own make them, to a report or to values. `demo`: a run of the generator's guest, to the
-//!   summary. `replay`: a finished history, to its report or its profile. `wrong`: why there is no
-//!   text. `answer`: what the words and the source come to.
-//! - `build`, `generate`: files of guests, of tc_build. `options`: with what a guest is run, of tc_isa.
-//!   `gate`: whom its workers tell how far they are, of tc_workers. `report`, `summary`: the texts of
-//!   a report and of a summary, of tc_report.
-//! - `status`: how the program ends. `top`: the top call. `program`: the words of the command line,
-//!   and the status of the process.
-//! - `delegation`: what the history of a legal run is to the pure machine of tc_core, and what it
-//!   shows of each section. `existence`: that there is a legal run. `round_trip`: what `run` wrote,
-//!   `replay` writes again. `rejection`: that a history is rejected in one way at most. `counts`: the
-//!   profile of a history beside its report.
+//! - `words`: what the arguments ask for. `order`: the order in which a lock's waiters are served.
+//!   `run`: a run by workers, from the image to the report. `nodes`: a run by workers that belong
+//!   to NUMA nodes. `made`: a run with the queues of a maker. `own`: runs for your own programs, to
+//!   a report or to values. `demo`: a run of the generator's guest, to the summary. `replay`: a
+//!   finished history, to its report or its profile. `wrong`: why there is no text. `answer`: the
+//!   answer to the arguments and the source.
+//! - `build`, `generate`: files of guests, of tc_build. `options`: the options of a run, of tc_isa.
+//!   `gate`: observers of its workers, of tc_workers. `report`, `summary`: the texts of a report
+//!   and of a summary, of tc_report.
+//! - `status`: how the program ends. `top`: the top call. `program`: the command-line arguments,
+//!   and the exit status of the process.
+//! - `delegation`: the history of a legal run as a trace of the machine of tc_core, and what it
+//!   shows of each section. `existence`: there is a legal run. `round_trip`: `replay` writes again
+//!   what `run` wrote. `rejection`: a history is rejected in one way at most. `counts`: a history's
+//!   profile agrees with its report.
 #![tactic(auto)]
 
 mod answer;

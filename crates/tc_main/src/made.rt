@@ -1,4 +1,4 @@
-//! Runs with the queues that a maker makes.
+//! Runs with the queues of a maker.
 
 ghost use Rattle.std.specs.Prelude.{◌≤◌, IfOk, map};
 ghost use Rattle.tc_workers.specs.Crew.{AreLines};
@@ -16,7 +16,7 @@ use tc_workers::gate::Gate;
 use tc_workers::lines::{Lines, deal, empty_rows};
 use tc_workers::run_with;
 
-/// The order of entry, by the queues of tc_queue.
+/// The order of entry (FIFO), by the queues of tc_queue.
 #[derive(Clone, Copy, Debug)]
 pub struct ByEntry;
 
@@ -50,10 +50,10 @@ pub fn line_up_by<M: QueueMaker>(
     Ok(Lines { queues, rows })
 }
 
-/// Runs the threads of an image to their ends, by so many workers beside one another, with the
-/// maker's queues. It may wait, as a desk may.
+/// Runs the threads of an image to their ends, by so many workers in parallel, with the maker's
+/// queues. It may wait, as a desk may.
 ///
-/// The one refusal is want of memory.
+/// Its only error is that memory ran out.
 pub(crate) fn run_made<R: Threads + Wait + Sync, M: QueueMaker, G: Gate>(
     rt: &R,
     alloc: Global,

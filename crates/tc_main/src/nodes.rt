@@ -1,4 +1,4 @@
-//! Runs with the queues of tc_nodes, by workers that belong to nodes.
+//! Runs with the queues of tc_nodes, by workers that belong to NUMA nodes.
 
 ghost use Rattle.std.specs.Prelude.{◌≡◌, ◌≤◌, ◌%◌, All, IfOk, length, map};
 ghost use Rattle.tc_main.specs.Orders.{AreOnNodes};
@@ -19,7 +19,7 @@ use tc_workers::gate::Gate;
 use tc_workers::lines::{Lines, deal, empty_rows};
 use tc_workers::run_with;
 
-/// The queues of the image's locks, with seats for so many workers: the seats of a worker are on the
+/// The queues of the image's locks, with seats for so many workers: a worker's seats are on the
 /// node of its number modulo the number of nodes.
 fn line_up_nodes(
     alloc: Global,
@@ -48,10 +48,10 @@ fn line_up_nodes(
     Ok(Lines { queues, rows })
 }
 
-/// Runs the threads of an image to their ends, by so many workers beside one another, each on the
-/// node of its number modulo the number of nodes. It may wait, as a desk may.
+/// Runs the threads of an image to their ends, by so many workers in parallel, each on the node of
+/// its number modulo the number of nodes. It may wait, as a desk may.
 ///
-/// The one refusal is want of memory.
+/// Its only error is that memory ran out.
 pub(crate) fn run_nodes<R: Threads + Wait + Sync, G: Gate>(
     rt: &R,
     alloc: Global,

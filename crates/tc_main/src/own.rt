@@ -1,5 +1,5 @@
-//! Runs as programs of one's own make them: with an order of waiters of their own, and to values in
-//! place of a text.
+//! Runs for your own programs: with your own order of waiters, and to values instead of a
+//! text.
 
 ghost use Rattle.std.specs.Prelude.{◌≡◌, ℕ, ◌<◌, ◌⊎◌, ◌^◌, IfOk, List, length};
 ghost use Rattle.tc_io.specs.Causes.{Rose};
@@ -52,7 +52,7 @@ where
     run_whole(rt, alloc, image, options, &Setting { maker, gate })
 }
 
-/// Does what `run` does with these options, but with the maker's queues.
+/// As `run` with these options, but with the maker's queues.
 fn end_of<R: Threads + Wait + Sync, S: Source, K: Sink, M: QueueMaker, G: Gate>(
     rt: &R,
     alloc: Global,
@@ -75,9 +75,9 @@ where
     }
 }
 
-/// Does what `tclocks run W F B` does with these options, but with the maker's queues: reads a
-/// guest's file from the source to its end, runs the guest, and writes the report. It ends as
-/// `tclocks` does with those words.
+/// As `tclocks run W F B` with these options, but with the maker's queues: reads a guest's file
+/// from the source to its end, runs the guest, and writes the report. It ends as `tclocks` does
+/// with those arguments.
 pub fn run_guest<R: Threads + Wait + Sync, S: Source, K: Sink, M: QueueMaker, G: Gate>(
     rt: &R,
     alloc: Global,
@@ -89,7 +89,7 @@ pub fn run_guest<R: Threads + Wait + Sync, S: Source, K: Sink, M: QueueMaker, G:
 ) -> Status
 where
     <M::Queue as Waiters>::Place: Send,
-    // It comes to the end to which the top call comes with the words of a run with these options.
+    // It ends as the top call does with the arguments of a run with these options.
     ensures ends { Ends (run_words options) (S.stream source.old) (S.stream source.new)
         (K.stream sink.old) (K.stream sink.new) result }
     // The report of a legal run of the guest that the source had was written whole.
@@ -101,23 +101,23 @@ where
     ensures read { result ≡ Status.ReadFault
         → FailsToRead (run_words options) (S.stream source.old) (S.stream source.new)
         × WritesNothing (K.stream sink.old) (K.stream sink.new) }
-    // What was read was refused, and the line that says why was written, or a front of it.
+    // The input was refused, and the line that says why was written, or a prefix of it.
     ensures refused { (k : ℕ) → result ≡ Status.Refused k → (r : NamedRefusal) × (k ≡ r.number)
         × IsRefusedFor (run_words options) (S.stream source.old) (S.stream source.new) r
         × Writes (K.stream sink.old) (K.stream sink.new) (refused_line r) }
-    // A write failed in this call, and a front of the report was written before it.
+    // A write failed in this call, after a prefix of the report was written.
     ensures write { result ≡ Status.WriteFault → (text : List ℕ)
         × IsWanted (run_words options) (S.stream source.old) (S.stream source.new) text
         × FailsAmid (K.stream sink.old) (K.stream sink.new) text }
-    // Memory was wanting, and nothing was written.
+    // Memory ran out, and nothing was written.
     ensures memory { result ≡ Status.OutOfMemory
         → ReadsNoFurther (run_words options) (S.stream source.old) (S.stream source.new)
         × WritesNothing (K.stream sink.old) (K.stream sink.new) }
-    // What is to be refused is refused, unless memory is wanted.
+    // Complete: what is to be refused is refused, unless memory runs out.
     ensures refuses { (s : Answered)
         → MustRefuse (run_words options) (S.stream source.old) (S.stream source.new) s
         → (result ≡ s) ⊎ (result ≡ Status.OutOfMemory) }
-    // What can be done is done, unless memory is wanted.
+    // Complete: what can be done is done, unless memory runs out.
     ensures complete { CanBeDone (run_words options) (S.stream source.old) (S.stream source.new)
         → ¬ Rose (K.stream sink.old) (K.stream sink.new)
         → (result ≡ Status.Done) ⊎ (result ≡ Status.OutOfMemory) }

@@ -1,4 +1,4 @@
-//! The program round the top call: the words of the command line, and the status of the process.
+//! The program around the top call: the command-line arguments, and the exit status of the process.
 
 ghost use Rattle.std.specs.Prelude.{◌≡◌, ℕ, List};
 ghost use Rattle.std.specs.Process.{exit_status};
@@ -17,9 +17,9 @@ use std::thread::Threads;
 use tc_io::{Sink, Source, Word};
 use tc_workers::gate::Open;
 
-/// The words of the command line, behind the program's name. Words that are not all UTF-8 are
-/// answered as no words, which ask for nothing. No clause tells what the environment gives: the
-/// stored runs of the programs do.
+/// The command-line arguments after the program's name. If they are not all UTF-8, the answer is no
+/// arguments, which ask for nothing. No contract says what the environment gives; the stored runs
+/// of the programs test it.
 pub fn words_of<R: Env + AllocGlobal>(rt: &R, alloc: Global) -> Result<Vec<Word>, AllocError> {
     let mut words = Vec::new(alloc);
     match env::args(rt) {
@@ -34,8 +34,8 @@ pub fn words_of<R: Env + AllocGlobal>(rt: &R, alloc: Global) -> Result<Vec<Word>
     Ok(words)
 }
 
-/// Does what the words of the command line ask for. Where there is no memory for them, nothing is
-/// read and nothing is written.
+/// Does what the command-line arguments ask for. If there is no memory for them, nothing is read
+/// and nothing is written.
 fn run_command<R: Env + AllocGlobal + Threads + Wait + Sync, S: Source, K: Sink>(
     rt: &R,
     source: &mut S,
@@ -52,18 +52,18 @@ fn run_command<R: Env + AllocGlobal + Threads + Wait + Sync, S: Source, K: Sink>
     }
 }
 
-/// The whole program, but for the streams of the process: does what the words of the command line
-/// ask for, by the top call, and answers with what the process ends. That is 0 where it is done,
-/// and else the number of the status that says why not.
+/// The whole program except the streams of the process: does what the command-line arguments ask
+/// for, by the top call, and returns the exit status of the process. That is 0 if it was done, and
+/// else the number of the status that says why not.
 ///
-/// No clause says that the words are those of the command line, since the environment tells nothing
-/// of them.
+/// No contract says that these are the command-line arguments, since the contract of the
+/// environment says nothing of them.
 pub fn run_program<R: Env + AllocGlobal + Threads + Wait + Sync, S: Source, K: Sink>(
     rt: &R,
     source: &mut S,
     sink: &mut K,
 ) -> ExitCode
-    // With these words the top call comes to this end, and the process ends with its number.
+    // With these arguments the top call ends like this, and the process ends with its number.
     ensures ends { EndsProcess (S.stream source.old) (S.stream source.new)
         (K.stream sink.old) (K.stream sink.new) (exit_status result) }
 {

@@ -7,19 +7,19 @@ ghost use Rattle.tc_main.specs.Replayed.{HasRun, IsRejection};
 ghost use Rattle.tc_main.specs.Top.{IsRejectedFor, IsWanted};
 ghost use Rattle.tc_replay.specs.declared.reason.Rejected.{Rejected};
 
-/// What stands behind a guest's file is rejected in one way at most, and not where it is accepted. A
-/// law: it does nothing when it is called.
+/// The text after a guest's file is rejected in one way at most, and never if it is accepted. A
+/// lemma: the function has no effect when it is called.
 pub fn rejection()
     ensures one { (size : ℕ) (o : Options) (bytes : List ℕ) (r s : Rejected)
         → IsRejection size o bytes r → IsRejection size o bytes s → r ≡ s }
     ensures never { (size : ℕ) (o : Options) (bytes : List ℕ) (r : Rejected)
         → HasRun size o bytes → IsRejection size o bytes r → ⊥ }
-    // So the same words and the same source, which tells its bytes, give one line and one reason,
+    // So equal arguments and equal sources, whose contents are known, give one line and one reason,
     // however often they are asked.
     ensures once { (words : List (List ℕ)) (before now later : Stream) (bytes : List ℕ) (r s : Rejected)
         → before.bytes ≡ Some bytes → IsRejectedFor words before now r
         → IsRejectedFor words before later s → r ≡ s }
-    // And no text, where they give these.
+    // If they give these, they give no text.
     ensures no_text { (words : List (List ℕ)) (before now later : Stream) (bytes text : List ℕ) (r : Rejected)
         → before.bytes ≡ Some bytes → IsRejectedFor words before now r
         → IsWanted words before later text → ⊥ }

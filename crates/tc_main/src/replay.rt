@@ -1,4 +1,4 @@
-//! A finished history of a guest: it is replayed, and its report or its profile is told.
+//! Replays a finished history of a guest, and makes its report or its profile.
 
 ghost use Rattle.std.specs.Prelude.{◌≡◌, ◌<◌, ◌≤◌, ◌^◌, IfOk, IfErr, length};
 ghost use Rattle.tc_isa.specs.declared.options.Options.{Options as AnyOptions};
@@ -27,7 +27,7 @@ use tc_replay::checking::{Verdict, checked};
 use tc_replay::reason::{Reason, Rejected};
 use tc_report::report::{lent, report_with, tail_of};
 
-/// A guest, a history of it with which nothing is wrong, and the checker that took the history.
+/// A guest, an accepted history of it, and the checker that took the history.
 #[derive(Drop)]
 pub(crate) struct Replay {
     image: Image,
@@ -63,8 +63,8 @@ fn blocks_of(alloc: Global, text: &[u8]) -> Result<Vec<Block>, Wrong>
     }
 }
 
-/// Replays the history whose text stands behind a guest's file of so many bytes. The bytes are let
-/// go before a block is run: the image and the blocks are copies.
+/// Replays the history whose text follows a guest's file of so many bytes. The bytes are dropped
+/// before a block is run: the image and the blocks are copies.
 pub(crate) fn replayed(
     alloc: Global,
     size: u32,
@@ -94,7 +94,7 @@ pub(crate) fn replayed(
     }
 }
 
-/// The report of a replay. What threads and locks came to is written first, so that they are gone
+/// The report of a replay. The final threads and locks are printed first, so that they are dropped
 /// before the report is made.
 pub(crate) fn replay_report(
     alloc: Global,
@@ -133,7 +133,7 @@ pub fn profile_of(alloc: Global, image: &Image, history: &[Block]) -> Result<Pro
     Ok(profile)
 }
 
-/// The profile of a replay. The threads and the locks are let go before it is made.
+/// The profile of a replay. The threads and the locks are dropped before it is made.
 pub(crate) fn replay_profile(alloc: Global, replay: Replay) -> Result<Vec<u8>, AllocError>
     requires { (o : AnyOptions) × IsReplayed o replay }
     ensures { IfOk result (λ out. out.items ≡ profile_text replay.image replay.history.items) }

@@ -32,7 +32,7 @@ use tc_seats::QueueMaker;
 use tc_segment::state::LockState;
 use tc_workers::gate::Gate;
 
-/// What each of the lock states keeps. A law: it goes over them, and does nothing.
+/// The invariant of each of the lock states. A lemma: it goes over them without effect.
 fn keep(locks: &[LockState])
     ensures { All IsSoundLock locks.now }
 {
@@ -62,7 +62,7 @@ fn history_of(alloc: Global, packages: &[Package]) -> Result<Vec<Block>, AllocEr
     merge_lent(alloc, &logs)
 }
 
-/// The blocks of all packages, where they stand, in the order of their stamps.
+/// The blocks of all packages, borrowed, in the order of their stamps.
 fn history_in(alloc: Global, packages: &[Package]) -> Result<Vec<&Block>, AllocError>
     requires { HasEachStamp (logs_of packages.now) }
     ensures blocks { IfOk result (λ history.
@@ -73,8 +73,8 @@ fn history_in(alloc: Global, packages: &[Package]) -> Result<Vec<&Block>, AllocE
     in_order(alloc, &logs)
 }
 
-/// How the workers of a run wait and what they pass: whose queues stand for the order of entry, and
-/// whom they tell how far they are.
+/// The parameters of a run: how its workers wait, which queues implement the order of entry, and
+/// which observer they call.
 #[derive(Drop)]
 pub(crate) struct Setting<'a, M, G> {
     pub maker: &'a M,
@@ -102,7 +102,7 @@ where
     }
 }
 
-/// Runs the guest until each thread has ended, and shows what the lock states keep.
+/// Runs the guest until each thread has ended, and states the invariant of its lock states.
 fn run_closed<R: Threads + Wait + Sync, M: QueueMaker, G: Gate>(
     rt: &R,
     alloc: Global,
@@ -122,7 +122,7 @@ where
     Ok(closed)
 }
 
-/// What the workers left of a run to the end of every thread, and the history of it.
+/// The result of a run to the end of every thread, and its history.
 #[derive(Drop)]
 pub struct WholeRun {
     /// All threads and locks, as the workers left them.
@@ -154,10 +154,10 @@ where
     Ok(WholeRun { closed, history })
 }
 
-/// Runs the guest, and writes the report of the run. It is made of the hall that the workers left,
-/// once each of them has ended. What threads and locks came to is told first, so that the lock
-/// states with their journals are gone before the blocks are put in order. The packages stay until
-/// the report is written: the blocks are read in their logs, and are not copied.
+/// Runs the guest, and writes the report of the run, made of the hall after all workers have ended.
+/// The final threads and locks are printed first, so that the lock states with their journals are
+/// dropped before the blocks are sorted. The packages stay until the report is written: the blocks
+/// are read in their logs, and are not copied.
 pub(crate) fn run_report<R: Threads + Wait + Sync, M: QueueMaker, G: Gate, K: Sink>(
     rt: &R,
     alloc: Global,

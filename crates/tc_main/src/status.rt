@@ -8,24 +8,24 @@ use tc_replay::reason::Rejected;
 /// How the program ends.
 #[derive(Clone, Copy, Debug, PartialEq, Eq)]
 pub enum Status {
-    /// What the words ask for was done, and its text was written whole.
+    /// What the arguments ask for was done, and its text was written whole.
     Done,
-    /// The words ask for nothing that the program does.
+    /// The arguments ask for nothing that the program does.
     Usage,
     /// The source failed.
     ReadFault,
-    /// What was read was refused for the reason of this number: 0 where it is too large, 17 where
-    /// it ends before the guest's file does, and else that of the file.
+    /// The input was refused for the reason of this number: 0 if it is too large, 17 if it ends
+    /// before the guest's file does, and else that of the file.
     Refused(u32),
     /// The sink failed.
     WriteFault,
-    /// Memory was refused.
+    /// Memory ran out.
     OutOfMemory,
     /// The history was rejected: at this line, for this reason.
     Rejected(Rejected),
 }
 
-/// The exit status of the program that ends so.
+/// The exit status of the program for this status.
 pub fn exit_of(status: Status) -> u8
     ensures { result ≡ status_number status }
 {

@@ -1,4 +1,4 @@
-//! The words of the command line.
+//! The command-line arguments.
 
 ghost use Rattle.std.specs.Prelude.{◌≡◌, ℕ, ◌≤◌, ◌∷◌, MatchBool, IfSome, IfNone, decimal};
 ghost use Rattle.tc_isa.specs.declared.options.Options.{Options as Chosen};
@@ -23,14 +23,14 @@ pub const DEMO_LIMIT: u32 = 8;
 /// The most bytes that the text of a history may have.
 pub const MAX_HISTORY: usize = 268_435_456;
 
-/// What the words ask for.
+/// What the arguments ask for.
 #[derive(Clone, Copy, Debug, PartialEq, Eq)]
 pub enum Command {
     /// A run of the source's guest.
     Run {
-        /// In which order the waiters of a lock are served.
+        /// The order in which the waiters of a lock are served.
         order: Order,
-        /// With what it is run.
+        /// The options of the run.
         options: Options,
     },
     /// The file of the generator's guest with so many rounds.
@@ -39,21 +39,21 @@ pub enum Command {
     Demo {
         /// The rounds of the guest.
         rounds: u32,
-        /// With what it is run.
+        /// The options of the run.
         options: Options,
     },
     /// The report of a history of the source's guest, which is replayed.
     Replay {
-        /// How many bytes of the source are the guest's file. The others are the history's text.
+        /// How many bytes of the source are the guest's file. The rest is the history's text.
         size: u32,
-        /// With what the guest was run.
+        /// The options of the run that made the history.
         options: Options,
     },
     /// The profile of such a history, which is replayed too.
     Profile {
-        /// How many bytes of the source are the guest's file. The others are the history's text.
+        /// How many bytes of the source are the guest's file. The rest is the history's text.
         size: u32,
-        /// With what the guest was run.
+        /// The options of the run that made the history.
         options: Options,
     },
 }
@@ -66,7 +66,7 @@ fn is_decimal(text: &str, number: u32) -> bool
     buffer.format(number) == text
 }
 
-/// The number that a text is, where it is one within a limit.
+/// The number that a text is, if it is one within a limit.
 fn number_of_text(text: &str, limit: u32) -> Option<u32>
     ensures some { IfSome result (λ n. (n ≤ limit) × (text.now ≡ decimal n)) }
     ensures none { IfNone result ((n : ℕ) → n ≤ limit → text.now ≡ decimal n → ⊥) }
@@ -82,7 +82,7 @@ fn number_of_text(text: &str, limit: u32) -> Option<u32>
     }
 }
 
-/// The number that a word is, where it is one from `least` to `most`.
+/// The number that an argument is, if it is one from `least` to `most`.
 fn number_of(word: &Word, least: u32, most: u32) -> Option<u32>
     ensures some { IfSome result (λ n. (least ≤ n) × (n ≤ most) × (word.now ≡ decimal n)) }
     ensures none { IfNone result ((n : ℕ) → least ≤ n → n ≤ most → word.now ≡ decimal n → ⊥) }
@@ -96,14 +96,14 @@ fn number_of(word: &Word, least: u32, most: u32) -> Option<u32>
     }
 }
 
-/// Whether the word is this one.
+/// Whether the argument is this one.
 fn is(word: &Word, name: &str) -> bool
     ensures { MatchBool result (word.now ≡ name.now) (word.now ≡ name.now → ⊥) }
 {
     word.bytes() == name.as_bytes()
 }
 
-/// The options that the words give: the number of workers, the fuel and the batch limit.
+/// The options that the arguments give: the number of workers, the fuel and the batch limit.
 pub fn options_of(words: &[Word]) -> Option<Options>
     ensures some { IfSome result (λ o. words.now ≡ option_words o) }
     ensures none { IfNone result ((o : Chosen) → words.now ≡ option_words o → ⊥) }
@@ -121,7 +121,7 @@ pub fn options_of(words: &[Word]) -> Option<Options>
     })
 }
 
-/// The options of the run, in the order of entry, that the words ask for.
+/// The options of the run, in the order of entry, that the arguments ask for.
 fn run_of(words: &[Word]) -> Option<Options>
     ensures some { IfSome result (λ o. AskFor words.now (Run Entry o)) }
     ensures none { IfNone result ((o : Chosen) → ¬ AskFor words.now (Run Entry o)) }
@@ -132,7 +132,7 @@ fn run_of(words: &[Word]) -> Option<Options>
     }
 }
 
-/// The order and the options of the run by nodes that the words ask for.
+/// The order and the options of the run by nodes that the arguments ask for.
 fn nodes_of(words: &[Word]) -> Option<(Order, Options)>
     ensures some { IfSome result (λ asked. AskFor words.now (Run asked.0 asked.1)) }
     ensures none { IfNone result ((nodes bound : ℕ) (o : Chosen)
@@ -150,7 +150,7 @@ fn nodes_of(words: &[Word]) -> Option<(Order, Options)>
     Some((Order::Nodes { nodes, bound }, options))
 }
 
-/// The rounds of the guest whose file the words ask for.
+/// The rounds of the guest whose file the arguments ask for.
 fn file_of(words: &[Word]) -> Option<u32>
     ensures some { IfSome result (λ n. AskFor words.now (Generate n)) }
     ensures none { IfNone result ((n : ℕ) → ¬ AskFor words.now (Generate n)) }
@@ -161,7 +161,7 @@ fn file_of(words: &[Word]) -> Option<u32>
     }
 }
 
-/// The rounds and the options of the demonstration that the words ask for.
+/// The rounds and the options of the demonstration that the arguments ask for.
 fn demo_of(words: &[Word]) -> Option<(u32, Options)>
     ensures some { IfSome result (λ d. AskFor words.now (Demonstrate d.0 d.1)) }
     ensures none { IfNone result ((n : ℕ) (o : Chosen) → ¬ AskFor words.now (Demonstrate n o)) }
@@ -182,8 +182,8 @@ fn demo_of(words: &[Word]) -> Option<(u32, Options)>
     Some((rounds, options))
 }
 
-/// The size of the guest's file and the options of the history for which the words ask, whose first
-/// word is this.
+/// The size of the guest's file and the options of the history that the arguments ask for, whose
+/// first argument is this.
 fn history_of(words: &[Word], name: &str) -> Option<(u32, Options)>
     ensures some { IfSome result (λ h. (1 ≤ h.0) × (h.0 ≤ MAX_FILE)
         × (words.now ≡ name.now ∷ decimal h.0 ∷ option_words h.1)) }
@@ -201,7 +201,7 @@ fn history_of(words: &[Word], name: &str) -> Option<(u32, Options)>
     Some((size, options))
 }
 
-/// What the words ask for, where they have one of the forms.
+/// What the arguments ask for, if they have one of the forms.
 pub fn asked_of(words: &[Word]) -> Option<Command>
     ensures some { IfSome result (λ asked. AskFor words.now asked) }
     ensures none { IfNone result (AskForNothing words.now) }

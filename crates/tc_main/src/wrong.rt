@@ -12,11 +12,11 @@ use tc_replay::reason::Rejected;
 pub enum Wrong {
     /// They end before the guest's file does.
     Short,
-    /// The guest's file is refused, for a reason other than want of memory.
+    /// The guest's file is refused, for a reason other than memory.
     File(Refusal),
     /// The history is rejected.
     History(Rejected),
-    /// There was no memory.
+    /// Memory ran out.
     OutOfMemory,
 }
 

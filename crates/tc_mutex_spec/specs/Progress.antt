@@ -1,4 +1,4 @@
--- What is ahead of a run: how many turns it may have, and how it can go on to the end of every thread.
+-- The future of a run: how many steps it may have, and how it can go on to the end of every thread.
 use Rattle.std.specs.Prelude.{◌≡◌, ℕ, ◌+◌, ◌*◌, ◌^◌, ◌<◌, ◌≤◌, false, List, length, All, Some}
 use Rattle.tc_isa.specs.declared.limits.TheConstants.{MAX_FUEL}
 use Rattle.tc_elf.specs.Shown.{Shown, entry_at}
@@ -11,7 +11,7 @@ use Rattle.tc_mutex_spec.specs.Machine.{State, start}
 use Rattle.tc_mutex_spec.specs.Machine as machine
 use Rattle.tc_mutex_spec.specs.Blocks.{Tells, IsComplete}
 
--- turns from the start, each of them defined
+-- steps from the start, each of them defined
 pub record Run : Type 0 where
   pub image : Shown
   pub fuel : ℕ
@@ -19,26 +19,26 @@ pub record Run : Type 0 where
   pub last : State
   pub leads : machine.turns image (start image fuel) turns ≡ Some last
 
--- each thread has one turn more than it has fuel
+-- each thread has one more step than it has fuel
 abbrev pub most_turns : Shown → ℕ → ℕ
 most_turns image fuel = length image.entries * (fuel + 1)
 
--- further turns, after which each thread has ended
+-- further steps after which each thread has ended
 pub record CanRunOn (image : Shown) (m : State) : Type 0 where
   pub rest : List ℕ
   pub last : State
   pub leads : machine.turns image m rest ≡ Some last
   pub complete : IsComplete image last
 
--- the numbers of the image and the fuel are no greater than a file's and those of a run's words
+-- the numbers of the image and the fuel are at most those of a file and of a run's arguments
 pub record IsSized (image : Shown) (fuel : ℕ) : Type 0 where
   pub threads : length image.entries ≤ MAX_THREADS
   pub entries : (t : ℕ) → (entry_at image t).address < 2 ^ 32
   pub most_fuel : fuel ≤ MAX_FUEL
 
--- a history that tells a run to the end of every thread. All its blocks are of worker 0, so of a worker that there is where
--- there is any, and no section is passed on. So the blocks of each lock obey every batch limit, and pass its sections on to
--- other threads; and worker 0 goes on with each thread whose block was cut, so the history shows delegation
+-- a history that is a trace of a complete run. All its blocks are of worker 0, so of a worker that exists if any
+-- does, and no section is passed on. So the blocks of each lock obey every batch limit, and pass its sections on
+-- to other threads. Worker 0 goes on with each thread whose block was cut, so the history shows delegation
 pub record CompleteHistory (image : Shown) (fuel : ℕ) : Type 0 where
   pub history : List Block
   pub last : State

@@ -1,4 +1,4 @@
--- The plain program's threads and locks as the machine.
+-- The threads and locks of the executable specification as the abstract machine.
 use Rattle.std.specs.Prelude.{◌≡◌, ℕ, ◌<◌, true, false, Bool, List, [], length, slice_get, Option, Some, None}
 use Rattle.std.specs.Option.{option_map}
 use Rattle.tc_elf.specs.Shown.{Shown}
@@ -37,16 +37,16 @@ pub record Suits (image : Shown) (s : Plain) : Type 0 where
   pub locks : length s.locks ≡ length image.guards
   pub held : (t k : ℕ) → (thread_at s.threads t).held k ≡ true → k < length image.guards
 
--- each lock took its part in the turn in which thread t, which held these locks, did this
+-- each lock changed by the step in which thread t, which held these locks, did this
 abbrev pub AreTurned : Shown → ℕ → (ℕ → Bool) → Option Act → List Mutex → List Mutex → Type 0
 AreTurned image t held act old new = (k : ℕ) → slice_get new k ≡ option_map (mutex_after image t held act k) (slice_get old k)
 
--- what a turn that was asked for did
+-- what a requested step did
 abbrev pub Turned : Shown → Plain → ℕ → Bool → Plain → Type 0
 Turned image old t true new = (can_turn image (state_of old) t ≡ true) × (state_of new ≡ after image (state_of old) t)
 Turned image old t false new = (can_turn image (state_of old) t ≡ false) × (new ≡ old)
 
--- the run that was asked for leads to the new state, or is undefined
+-- the requested run leads to the new state, or is undefined
 abbrev pub LeadsTo : Option State → Bool → Plain → Type 0
 LeadsTo o true new = o ≡ Some (state_of new)
 LeadsTo o false new = o ≡ None

@@ -1,4 +1,4 @@
-//! The laws of the machine.
+//! The lemmas of the mutex machine.
 
 ghost use Rattle.std.specs.Prelude.{◌≡◌, ℕ, ◌≤◌, ◌++◌, [], ◌∷◌, Bool, true, List, Option, Some, None, IfSome, length, option_and_then};
 ghost use Rattle.tc_elf.specs.Shown.{Shown};
@@ -15,16 +15,16 @@ ghost use Rattle.tc_mutex_spec.specs.Progress.{Run, most_turns, CanRunOn, Comple
 ghost use Rattle.tc_journal.specs.Batch.{ends_section, last_of};
 ghost use Rattle.tc_journal.specs.History.{of_lock, schedule};
 
-/// A turn reads and changes only its thread and the locks that the thread holds before it or takes
-/// in it: those that a set covers.
+/// Locality: a step reads and changes only its thread and the locks that the thread holds before it
+/// or takes in it, which a set covers.
 pub fn locality()
-    // The locks that the thread holds, with the one that its turn takes, are such a set.
+    // The locks that the thread holds, with the one that its step takes, are such a set.
     ensures covered { (image : Shown) (d : Thread)
         → Covers image (locks_of_block d.held (next_lock image d)) d }
     // Nothing else changes.
     ensures apart { (image : Shown) (m : State) (t : ℕ) (set : ℕ → Bool)
         → Covers image set (m.threads t) → Apart t set m (after image m t) }
-    // Nothing else counts: where these are alike, the turn is defined alike and does the same.
+    // Nothing else matters: if these are equal, the step is defined in both and does the same.
     ensures defined { (image : Shown) (m n : State) (t : ℕ) (set : ℕ → Bool)
         → Covers image set (m.threads t) → Agree t set m n
         → can_turn image m t ≡ can_turn image n t }
@@ -33,7 +33,7 @@ pub fn locality()
         → Agree t set (after image m t) (after image n t) }
 {}
 
-/// A run is one fold of turns, and a run of more pairs goes on where the run of the first ones ends.
+/// A run is a fold of steps; a longer run continues where the run of its prefix ends.
 pub fn folds()
     ensures joined { (image : Shown) (m : State) (a b : List ℕ)
         → turns image m (a ++ b) ≡ option_and_then (λ n. turns image n b) (turns image m a) }
@@ -44,7 +44,7 @@ pub fn folds()
         ≡ option_and_then (λ n. run_from image n b) (run_from image m a) }
 {}
 
-/// A block is the same wherever its thread and its locks are the same, and leaves all else alone.
+/// A block is the same if its thread and its locks are the same, and it changes nothing else.
 pub fn blocks()
     ensures same { (image : Shown) (m n last : State) (t turns : ℕ) (end : End) (set : ℕ → Bool)
         → Runs image m t turns end last → Covers image set (m.threads t) → Agree t set m n
@@ -60,28 +60,28 @@ pub fn blocks()
         → entry_of image k m b ≡ entry_of image k n b }
 {}
 
-/// Histories tell runs.
+/// Histories are traces of runs.
 pub fn histories()
-    // A block that stands at the end of what a history tells makes a longer one that tells.
+    // A trace with one more block of its last state is a trace.
     ensures more { (image : Shown) (fuel : ℕ) (h : List Block) (m last : State) (b : Block)
         → Tells image fuel h m → Stands image h m b last → Tells image fuel (h ++ b ∷ []) last }
-    // The schedule of a history that tells is a run, which leads where the history does.
+    // The schedule of a trace is a run to the same state.
     ensures runs { (image : Shown) (fuel : ℕ) (h : List Block) (m : State)
         → Tells image fuel h m → run image fuel (schedule h) ≡ Some m }
-    // And gives each lock its journal, which RV32IM replays to the lock as the run leaves it.
+    // It gives each lock its journal, which RV32IM replays to the lock as the run leaves it.
     ensures journals { (image : Shown) (fuel : ℕ) (h : List Block) (m : State) (k : ℕ)
         → length image.guards ≤ MAX_GUARDS → Tells image fuel h m → HasJournal image fuel h m k }
 {}
 
-/// In every state that turns reach from the start, a thread holds a lock exactly where it is the
-/// lock's owner.
+/// Mutual exclusion: in every state that is reachable from the start, a thread holds a lock if and
+/// only if it is the lock's owner.
 pub fn holding()
     ensures { (image : Shown) (fuel : ℕ) (threads : List ℕ) (m : State)
         → turns image (start image fuel) threads ≡ Some m → IsHeldByOwner m }
 {}
 
-/// The last block of a lock tells who owns it: nobody, where that block ended a section or there
-/// is none, and else its thread.
+/// The last block of a lock says who owns it: nobody, if that block ended a section or there is
+/// none; else its thread.
 pub fn owning()
     ensures owner { (image : Shown) (fuel : ℕ) (h : List Block) (m : State) (k : ℕ)
         → Tells image fuel h m → (m.locks k).owner ≡ owner_by k (last_of (of_lock h k)) }
@@ -90,16 +90,16 @@ pub fn owning()
         → (m.locks k).owner ≡ None }
 {}
 
-/// A guest never stands still before each of its threads has ended, where it has no more locks than
-/// a file may have: whoever holds a lock wants only a greater one, so of the threads that hold
-/// locks one may go on. Of more locks a thread could take two in either order.
+/// Deadlock freedom: a guest can always go on until all its threads have ended, if it has no more
+/// locks than a file may have. Each holder wants only a greater lock, so one of the threads that
+/// hold locks can step. With more locks a thread could take two in either order.
 pub fn progress()
-    // A run has so many turns at most.
+    // A run has at most so many steps.
     ensures few { (r : Run) → length r.turns ≤ most_turns r.image r.fuel }
-    // And can go on until each thread has ended.
+    // It can go on until each thread has ended.
     ensures ends { (r : Run) → length r.image.guards ≤ MAX_GUARDS → CanRunOn r.image r.last }
-    // So there is a history of the whole: of one worker, and with every section taken it is right
-    // for each number of workers and each batch limit, and shows delegation.
+    // So a complete history exists. With one worker and every section taken, it is legal for each
+    // number of workers and each batch limit, and shows delegation.
     ensures complete { (image : Shown) (fuel : ℕ) → length image.guards ≤ MAX_GUARDS
         → CompleteHistory image fuel }
 {}

@@ -1,4 +1,4 @@
-//! The locks of the plain program.
+//! The locks of the executable specification.
 
 ghost use Rattle.std.specs.Prelude.{◌≡◌, ℕ, ◌<◌, ◌≤◌, length, slice_get, IfOk, IfSome};
 ghost use Rattle.std.specs.Option.{option_map};
@@ -46,7 +46,7 @@ impl SlowLock {
         })
     }
 
-    /// The lock of this number after a turn of the thread that held these locks before it.
+    /// The lock of this number after a step of the thread that held these locks before it.
     fn take_turn(&mut self, image: &Image, thread: u32, held: Held, act: &Option<Act>, number: u32)
         requires number { number < length image.now.guards }
         requires fits { IfSome act.now ActFits }
@@ -104,7 +104,7 @@ impl SlowLock {
     }
 }
 
-/// Every lock after a turn.
+/// Every lock after a step.
 fn take_turns(locks: &mut [SlowLock], image: &Image, thread: u32, held: Held, act: &Option<Act>)
     requires { MayDo image.now locks.old act.now }
     ensures { AreTurned image.now thread (has held) act.now locks.old locks.new }
@@ -143,7 +143,7 @@ impl SlowLocks {
         Ok(SlowLocks { locks })
     }
 
-    /// Every lock after a turn of the thread that held these locks before it.
+    /// Every lock after a step of the thread that held these locks before it.
     pub fn take_turn(&mut self, image: &Image, thread: u32, held: Held, act: &Option<Act>)
         requires { MayDo image.now self.old act.now }
         ensures each { AreTurned image.now thread (has held) act.now self.old self.new }
@@ -159,7 +159,7 @@ impl SlowLocks {
         self.locks.get(lock as usize)?.owner
     }
 
-    /// Whether a lock is broken.
+    /// Whether a lock is broken (poisoned).
     pub fn is_broken(&self, lock: u32) -> bool
         ensures { result ≡ (mutex_at self.now lock).broken }
     {
@@ -189,7 +189,7 @@ impl SlowLocks {
         }
     }
 
-    /// Whether a lock, where there is one, has no owner.
+    /// Whether a lock, if there is one, has no owner.
     pub fn is_open(&self, lock: Option<u32>) -> bool
         ensures { result ≡ is_open lock (mutex_at self.now) }
     {

@@ -1,7 +1,7 @@
-//! The machine as a plain program.
+//! The mutex machine as an executable specification.
 //!
-//! Each turn reads what the thread does, and then the thread and every lock change by that, each
-//! for itself, as the machine says. No turn copies a thread's memory.
+//! A step reads what the thread does; then the thread and every lock change by that, independently,
+//! as the machine says. No step copies a thread's memory.
 
 ghost use Rattle.std.specs.Prelude.{◌≡◌, ℕ, ◌+◌, ◌<◌, ◌≤◌, ◌^◌, length, slice_get, IfOk, IfSome, true, false, replicate};
 ghost use Rattle.std.specs.Option.{option_map};
@@ -91,8 +91,8 @@ impl Slow {
         Ok(Slow { threads, locks })
     }
 
-    /// Whether the thread's turn is defined: it is a thread, has not ended, and does not take a lock
-    /// that has an owner.
+    /// Whether the thread's step is defined: the thread exists, has not ended, and does not take a
+    /// lock that has an owner.
     #[tactic(auto, unfolding(crate::specs::Machine::can_turn))]
     pub(crate) fn can_turn(&self, image: &Image, t: u32) -> bool
         requires { Suits image.now self.now }
@@ -105,7 +105,7 @@ impl Slow {
         thread.status() == SlowStatus::Running && self.locks.is_open(thread.next_lock(image))
     }
 
-    /// What the thread's next turn does.
+    /// What the thread's next step does.
     #[tactic(auto, using(crate::proofs::Holds::can_thread))]
     fn next_act(&self, image: &Image, t: u32) -> Option<Act>
         requires { MayTakeTurn image.now self.now t }
@@ -120,7 +120,7 @@ impl Slow {
         thread.act(image, answer(&beside, image, want, thread.next_lock(image)))
     }
 
-    /// The lock that the next turn of the thread takes, where it takes one.
+    /// The lock that the next step of the thread takes, if it takes one.
     pub fn next_lock(&self, image: &Image, t: u32) -> Option<u32>
         requires { t < length self.now.threads }
         ensures value { result ≡ next_lock image.now ((state_of self.now).threads t) }
@@ -129,7 +129,7 @@ impl Slow {
         self.threads[t as usize].next_lock(image)
     }
 
-    /// A turn of the thread, and how it came out for the block that it is in.
+    /// A step of the thread, and how it came out for its block.
     #[tactic(auto, using(crate::proofs::Holds::can_thread))]
     pub fn take_turn(&mut self, image: &Image, t: u32) -> Outcome
         requires { MayTakeTurn image.now self.old t }
@@ -143,8 +143,8 @@ impl Slow {
         outcome_of(&act)
     }
 
-    /// A turn of the thread, where it is defined, and whether it is. Nothing changes where it is
-    /// not.
+    /// A step of the thread if it is defined, and whether it is. If it is not, nothing
+    /// changes.
     pub fn turn(&mut self, image: &Image, t: u32) -> bool
         requires { Suits image.now self.old }
         ensures turned { Turned image.now self.old t result self.new }
@@ -157,7 +157,7 @@ impl Slow {
         can
     }
 
-    /// So many turns of the thread, where they are defined.
+    /// So many steps of the thread, if they are defined.
     pub(crate) fn turns(&mut self, image: &Image, t: u32, count: u32) -> bool
         requires { Suits image.now self.old }
         ensures ran { LeadsTo (turns image.now (state_of self.old) (replicate count t))
@@ -172,7 +172,7 @@ impl Slow {
         true
     }
 
-    /// The turns of each pair, where they are defined.
+    /// The steps of each pair, if they are defined.
     fn pairs(&mut self, image: &Image, schedule: &[(u32, u32)]) -> bool
         requires { Suits image.now self.old }
         ensures ran { LeadsTo (run_from image.now (state_of self.old) schedule.now)
@@ -187,8 +187,8 @@ impl Slow {
         true
     }
 
-    /// The machine after a run of a schedule from the start, a list of pairs of a thread and a
-    /// number of turns; None exactly where a turn is undefined: where its thread is none, has
+    /// The machine after a run of a schedule from the start: a list of pairs of a thread and a
+    /// number of steps. None if and only if a step is undefined: its thread does not exist, has
     /// ended, or would take a lock that has an owner.
     pub fn run(
         alloc: Global,

@@ -172,7 +172,7 @@ fn upgraded<R: Abort>(rt: &R, alloc: Global, line: &str) -> Result<Option<Block>
     Ok(new.and_then(|blocks| blocks.first().copied()))
 }
 
-/// An old text is read, and its block gets the pc; where the run is undefined, there is none.
+/// An old text is read, and its block gets the pc; if the run is undefined, there is none.
 #[test]
 fn an_old_text_gets_its_pcs(rt: HostRuntime) -> Result<(), Fail> {
     let line = "block 0 thread 0 turns 2 held - kind start worker 0 end exit\n";

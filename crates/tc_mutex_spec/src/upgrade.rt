@@ -1,4 +1,4 @@
-//! Old histories, whose blocks have no pc, made new by a run of their schedule.
+//! Adds the pc of each block to an old history, by a run of its schedule.
 
 ghost use Rattle.std.specs.Prelude.{◌≡◌, ◌≤◌, IfOk, IfSome, is_some};
 ghost use Rattle.std.specs.List.{All};
@@ -14,7 +14,7 @@ use std::alloc::{AllocError, Global};
 use tc_elf::image::Image;
 use tc_journal::block::{Block, BlockV1};
 
-/// The pc of a thread before so many turns of it, which it then takes; None where one of them is
+/// The pc of a thread before so many of its steps, which it then takes; None if one of them is
 /// undefined.
 fn take_block(slow: &mut Slow, image: &Image, t: u32, count: u32) -> Option<u32>
     requires suits { Suits image.now slow.old }
@@ -32,9 +32,9 @@ fn take_block(slow: &mut Slow, image: &Image, t: u32, count: u32) -> Option<u32>
     }
 }
 
-/// The same blocks, each with its thread's pc before its turns in the run over their schedule;
-/// None exactly where that run is undefined. What an old history says of kinds, held locks and ends
-/// is not looked at.
+/// The same blocks, each with its thread's pc before it in the run of their schedule. None if
+/// and only if that run is undefined. The kinds, held locks and ends of the old history are
+/// ignored.
 pub fn upgrade(
     alloc: Global,
     image: &Image,

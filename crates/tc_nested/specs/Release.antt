@@ -4,6 +4,6 @@ use Rattle.tc_isa.specs.Sets.{has}
 use Rattle.tc_journal.specs.Batch.{ends_section}
 use Rattle.tc_journal.specs.declared.block.Block.{Block}
 
--- the block had the lock, and gave it up at its end: by an UNLOCK of it, or since its thread ended
+-- the block had the lock, and released it at its end: by an UNLOCK, or because its thread ended
 abbrev pub Releases : ℕ → Block → Type 0
 Releases lock b = (has b.held lock ≡ true) × (ends_section lock b ≡ true)

@@ -1,4 +1,4 @@
-//! What comes next is allowed.
+//! The section that comes next is allowed.
 
 ghost use Rattle.std.specs.Prelude.{◌≡◌, ℕ, List, Some, true, false};
 ghost use Rattle.tc_journal.specs.Batch.{may_adopt, run_of, last_of, allows_of};
@@ -6,9 +6,9 @@ ghost use Rattle.tc_journal.specs.declared.block.Block.{Block as AnyBlock};
 ghost use Rattle.tc_journal.specs.declared.block.Kind.TheVariants.{Adopted, Granted};
 ghost use Rattle.tc_nested.specs.Release.{Releases};
 
-/// Behind a block that released the lock, the batch rule allows what `plan` says of the blocks of
-/// the lock up to it: an Adopted section by the same worker, or a Granted one by any. A law: it
-/// does nothing when it is called.
+/// After a block that released the lock, the batch rule allows what `plan` answers for the lock's
+/// blocks so far: an Adopted section by the same worker, or a Granted one by any. A lemma: the
+/// function has no effect when it is called.
 pub fn allowed()
     ensures adopted { (lock limit : ℕ) (bs : List AnyBlock) (b : AnyBlock)
         → last_of bs ≡ Some b → may_adopt b lock (run_of lock bs) limit ≡ true

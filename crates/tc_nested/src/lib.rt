@@ -1,13 +1,13 @@
 //! Who gets a released lock next.
 //!
-//! The desks ask here when a block has released locks. They are promised that the answer is the
-//! batch rule's: a released lock stays free where nobody waits, else its worker adopts a waiter
-//! where the rule lets it, and else a waiter is granted the lock; such a section is then allowed by
-//! every lock state whose journal ends with that block. The locks of a thread that has ended are
-//! passed on in one order, the least first.
+//! The desks (a combiner for each worker) ask here after a block that released locks. They are
+//! promised the answer of the batch rule. A released lock stays free if nobody waits; else its
+//! worker adopts a waiter if the rule lets it; else a waiter is granted the lock. Every lock state
+//! whose journal ends with that block allows such a section. A thread that has ended passes its
+//! locks on in ascending order.
 //!
 //! - `next`: what becomes of a released lock, and of all locks of a thread that has ended.
-//! - `law`: that the batch rule allows what comes next.
+//! - `law`: the batch rule allows what comes next.
 #![tactic(auto)]
 
 mod law;

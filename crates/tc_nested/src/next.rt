@@ -13,7 +13,7 @@ use tc_journal::block::Block;
 /// What becomes of a lock that a block released.
 #[derive(Clone, Copy, Debug, PartialEq, Eq)]
 pub enum Next {
-    /// Nobody waits: the lock goes home.
+    /// Nobody waits: the lock is stored in its slot again.
     Free,
     /// A waiter's section is run by the worker that ran the block.
     Adopt,
@@ -21,8 +21,8 @@ pub enum Next {
     Grant,
 }
 
-/// What becomes of a lock that a block released, by the batch rule. `run` is the streak: how many
-/// Adopted sections of the lock stand in a row up to the block; `limit` is the batch limit, and
+/// What becomes of a lock that a block released, by the batch rule. `run` is the streak: the number
+/// of consecutive Adopted sections of the lock up to the block. `limit` is the batch limit.
 /// `waiting` says whether a waiter is linked behind the block's thread.
 pub fn plan(block: &Block, lock: u32, run: u32, limit: u32, waiting: bool) -> Next
     requires released { Releases lock block.now }
@@ -41,7 +41,7 @@ pub fn plan(block: &Block, lock: u32, run: u32, limit: u32, waiting: bool) -> Ne
     }
 }
 
-/// The lock that is passed on first, of those of a thread that has ended: the least. None where
+/// The lock that a thread that has ended passes on first: the least of those that it held. None if
 /// none is left.
 pub fn first_release(held: Held) -> Option<u32>
     ensures value { MatchOption result (held ≡ 0) (λ lock. IsLeast held lock) }

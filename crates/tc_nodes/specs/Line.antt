@@ -1,4 +1,4 @@
--- A line of waiting turns, and who is picked from it.
+-- A line of waiting turns, and which of them is picked.
 use Rattle.std.specs.Prelude.{◌≡◌, ℕ, ◌+◌, ◌≤◌, ◌==◌, Bool, true, false, ◌&&◌, ◌||◌, if◌then◌else◌, List, [], ◌∷◌, ◌++◌, length, Option, Some, None}
 use Rattle.tc_queue.specs.declared.turn.Turn.{Turn}
 use Rattle.tc_nodes.specs.declared.line.Waiter.{Waiter}
@@ -28,12 +28,12 @@ pub record MayLineUp (threads bound : ℕ) : Type 0 where
   pub few : threads ≤ 64
   pub bounded : bound ≤ 256
 
--- ---- coming
+-- ---- arriving
 
 abbrev pub newcomer : Turn → ℕ → Waiter
 newcomer u node = record { turn = u; node = node; passes = 0 }
 
--- as many turns wait as there are threads, or this one does
+-- as many turns wait as there are threads, or this one does already
 abbrev pub is_refused : Turn → LineView → Bool
 is_refused u l = (length l.waiting == l.threads) || has_turn u l.waiting
 
@@ -57,7 +57,7 @@ abbrev pub or_else : Option Turn → Turn → Option Turn
 or_else None u = Some u
 or_else (Some x) u = Some x
 
--- the oldest where it was passed over as often as may be, else the first of this node, else the oldest
+-- the oldest if it was passed over as often as the bound allows, else the first of this node, else the oldest
 abbrev pub picked : ℕ → ℕ → List Waiter → Option Turn
 picked bound node [] = None
 picked bound node (o ∷ ws) = if o.passes == bound then Some o.turn else or_else (first_of node (o ∷ ws)) o.turn
@@ -65,7 +65,7 @@ picked bound node (o ∷ ws) = if o.passes == bound then Some o.turn else or_els
 abbrev pub passed_over : Waiter → Waiter
 passed_over w = record w { passes = w.passes + 1 }
 
--- the line without a turn: each before it was passed over once more
+-- the line without a turn: each turn before it was passed over once more
 abbrev pub line_without : Turn → List Waiter → List Waiter
 line_without u [] = []
 line_without u (w ∷ ws) = if is_turn u w.turn then ws else passed_over w ∷ line_without u ws
@@ -74,9 +74,9 @@ abbrev pub line_after : Option Turn → List Waiter → List Waiter
 line_after None ws = ws
 line_after (Some u) ws = line_without u ws
 
--- ---- what a line keeps
+-- ---- the invariant of a line
 
--- the counters are at most this, and do not rise from an older waiter to a younger one
+-- the counters are at most this, and do not increase from an older waiter to a younger one
 abbrev pub IsSteady : ℕ → List Waiter → Type 0
 IsSteady most [] = Unit {0}
 IsSteady most (w ∷ ws) = (w.passes ≤ most) × IsSteady w.passes ws

@@ -1,4 +1,4 @@
--- A queue that knows nodes as an order of waiters: of a seat's steps, those at which a call was answered.
+-- A NUMA-aware queue as an order of waiters: of a seat's steps, those at which a call was answered.
 use Rattle.std.specs.Prelude.{List, [], ◌∷◌}
 use Rattle.tc_queue.specs.declared.turn.Departure.TheVariants.{Followed}
 use Rattle.tc_queue.specs.View.{QueueView}

@@ -1,6 +1,6 @@
--- The rule of a queue that knows nodes: all steps that were made stand in one order, in which each seat's steps stand as it made them,
--- in which a plain queue would have answered each of them as it was answered, and after which that queue is what the words, the slot
--- and the hands of the seats say.
+-- The invariant of a NUMA-aware queue: all steps have a total order that respects the order of each
+-- seat's steps, in which a sequential queue answers each of them as it was answered, and whose
+-- final state the words, the slot and what the seats hold represent.
 use Rattle.std.specs.Prelude.{◌≡◌, ◌≢◌, ℕ, ◌+◌, ◌^◌, ◌%◌, ◌<◌, ◌≤◌, ◌==◌, Bool, true, false, if◌then◌else◌, List, [], ◌∷◌, ◌++◌, All, length, slice_index, Option, Some, None}
 use mathlib.Core.Option as maybe
 use mathlib.Core.Option.{some, none}
@@ -23,21 +23,21 @@ use Rattle.tc_nodes.specs.Cells.{word_of_cell}
 
 -- ---- answers
 
--- one more, where 2^64 is 0
+-- incremented by one, modulo 2^64
 abbrev pub next_to : ℕ → ℕ
 next_to n = (n + 1) % 2 ^ 64
 
 abbrev pub answer_to_enter : ℕ → Entered
 answer_to_enter found = if found == 0 then First else Behind found
 
--- everyone who entered was read, but the first
+-- everyone who entered was read, except the first
 abbrev pub answer_to_leave : ℕ → Stand → Departure
 answer_to_leave found h = if found == next_to h.read then Left else Followed
 
 abbrev pub enter_call : Turn → ℕ → LineStep
 enter_call u found = Enter u (answer_to_enter found)
 
--- whether the line takes in what was found in a cell
+-- whether the line accepts what was found in a cell
 abbrev pub takes_in : Option Placed → Stand → Bool
 takes_in None h = false
 takes_in (Some p) h = if is_refused p.turn h.line then false else true
@@ -57,7 +57,7 @@ abbrev pub stand_left : Departure → Stand → Stand
 stand_left Left h = record h { read = 0 }
 stand_left Followed h = h
 
--- ---- a plain queue
+-- ---- a sequential queue
 
 -- how many entered since nobody was there, the cells, who has the line out, and the line
 pub record Plain : Type 0 where
@@ -72,7 +72,7 @@ empty_stand k = record { line = record { threads = k.threads; bound = k.bound; w
 abbrev pub empty_queue : NodeTerms → Plain
 empty_queue k = record { entered = 0; cells = λ _. None; holder = None; stand = empty_stand k }
 
--- with this in a cell
+-- with this value in a cell
 abbrev pub with_cell : ℕ → Option Placed → Plain → Plain
 with_cell j c q = record q { cells = λ i. if i == j then c else q.cells i }
 
@@ -83,7 +83,7 @@ abbrev pub entered_left : Departure → ℕ → ℕ
 entered_left Left n = 0
 entered_left Followed n = n
 
--- a cell that was found empty stays so, as does one in which something was found
+-- reading an empty cell leaves it empty; reading a full one empties it
 abbrev pub plain_after : Plain → ℕ → LineStep → Plain
 plain_after q id (Enter u a) = record q { entered = next_to q.entered }
 plain_after q id (Link place u node) = with_cell (place % 64) (Some (record { turn = u; node = node })) q
@@ -95,7 +95,7 @@ plain_after q id (Stay u) = home_with q.stand q
 plain_after q id (Leave u d) = record q { entered = entered_left d q.entered; stand = stand_left d q.stand }
 plain_after q id Back = home_with q.stand q
 
--- u entered behind so many, and was not linked since
+-- u entered behind so many, and has not been linked since
 abbrev pub MayLink : List LineStep → Turn → ℕ → Type 0
 MayLink calls u place = (i : ℕ) × (get_elem? calls i ≡ some (Enter u (Behind place))) × ((j other node : ℕ) → i < j → get_elem? calls j ≢ some (Link other u node))
 
@@ -103,7 +103,7 @@ abbrev pub is_home : Option ℕ → Bool
 is_home None = true
 is_home (Some id) = false
 
--- a seat with this list may make the step, and this is the queue's answer
+-- a seat with this list may make the step, and the queue answers this
 abbrev pub MayCome : NodeTerms → Plain → ℕ → List LineStep → LineStep → Type 0
 MayCome k q id calls (Enter u a) = IsTurn k.threads u × (a ≡ answer_to_enter q.entered)
 MayCome k q id calls (Link place u node) = IsTurn k.threads u × (node < 8) × MayLink calls u place
@@ -121,7 +121,7 @@ pub record Made : Type 0 where
   pub seat : ℕ
   pub call : LineStep
 
--- the steps of one seat, the first one first
+-- the steps of one seat, in order
 abbrev pub calls_of : ℕ → List Made → List LineStep
 calls_of id [] = []
 calls_of id (m ∷ before) = if m.seat == id then calls_of id before ++ m.call ∷ [] else calls_of id before
@@ -134,7 +134,7 @@ abbrev pub IsLegal : NodeTerms → List Made → Type 0
 IsLegal k [] = Unit {0}
 IsLegal k (m ∷ before) = MayCome k (queue_after k before) m.seat (calls_of m.seat before) m.call × IsLegal k before
 
--- ---- the words, the slot and the hands
+-- ---- the words, the slot and what the seats hold
 
 abbrev pub line_word : Option ℕ → ℕ
 line_word None = 0
@@ -146,12 +146,12 @@ pub record AreWords (words : List ℕ) (q : Plain) : Type 0 where
   pub line : slice_index words 1 ≡ line_word q.holder
   pub cells : (j : ℕ) → j < 64 → slice_index words (j + 2) ≡ word_of_cell (q.cells j)
 
--- the line is in its slot where nobody has it out
+-- the line is in its slot if nobody has it out
 abbrev pub slot_of : Option ℕ → Stand → maybe.Option Stand
 slot_of None h = some h
 slot_of (Some id) h = none
 
--- what the seat has in hand
+-- what the seat holds
 abbrev pub hand_of : ℕ → Option ℕ → Stand → Option Stand
 hand_of id None h = None
 hand_of id (Some holder) h = if holder == id then Some h else None
@@ -162,11 +162,11 @@ known_of k q calls id = record { threads = k.threads; bound = k.bound; calls = c
 abbrev pub first_known : NodeTerms → Known
 first_known k = record { threads = k.threads; bound = k.bound; calls = []; hand = None }
 
--- a new seat beside one
+-- a new seat beside a given one
 abbrev pub known_beside : Known → Known
 known_beside v = record { threads = v.threads; bound = v.bound; calls = []; hand = None }
 
--- ---- the rule
+-- ---- the invariant
 
 pub record IsOrdered (k : NodeTerms) (s : State Stand Known) : Type 0 where
   pub few : k.threads ≤ 64

@@ -14,7 +14,7 @@ pub data Did : Type 0 where
   Arrived : Turn → ℕ → Did
   Answered : Option Turn → Did
 
--- all turns that arrived, each with its node, the first one first
+-- all turns that arrived, each with its node, in order
 abbrev pub arrivals : List Did → List Placed
 arrivals [] = []
 arrivals (Arrived u node ∷ before) = arrivals before ++ record { turn = u; node = node } ∷ []
@@ -34,7 +34,7 @@ is_answered u [] = false
 is_answered u (Arrived v node ∷ before) = is_answered u before
 is_answered u (Answered a ∷ before) = is_it u a || is_answered u before
 
--- a turn that arrived waits where no pick has answered it
+-- a turn that arrived waits if no pick has answered it
 abbrev pub waits : List Did → Placed → Bool
 waits past c = not (is_answered c.turn past)
 
@@ -47,7 +47,7 @@ abbrev pub bit : Bool → ℕ
 bit true = 1
 bit false = 0
 
--- x was answered: it had arrived after u
+-- x was answered, and had arrived after u
 abbrev pub is_pass : Turn → Option Turn → List Placed → Bool
 is_pass u None came = false
 is_pass u (Some x) came = is_after u x came
@@ -71,7 +71,7 @@ oldest past = first_that (waits past) (arrivals past)
 abbrev pub oldest_of : ℕ → List Did → Option Turn
 oldest_of node past = first_that (λ c. waits past c && (c.node == node)) (arrivals past)
 
--- the oldest where it was passed over as often as may be, else the oldest of this node, else the oldest
+-- the oldest if it was passed over as often as the bound allows, else the oldest of this node, else the oldest
 abbrev pub answer_by : ℕ → ℕ → List Did → Option Turn → Option Turn
 answer_by most node past None = None
 answer_by most node past (Some o) = if passes past o == most then Some o else or_else (oldest_of node past) o
@@ -85,12 +85,12 @@ abbrev pub after_op : ℕ → List Did → Op → List Did
 after_op most past (Arrive u node) = Arrived u node ∷ past
 after_op most past (Pick node) = Answered (answer most node past) ∷ past
 
--- what has happened after these operations more
+-- what has happened after these further operations
 abbrev pub history : ℕ → List Did → List Op → List Did
 history most past [] = past
 history most past (op ∷ ops) = history most (after_op most past op) ops
 
--- the answers, the first one first
+-- the answers, in order
 abbrev pub answers : List Did → List (Option Turn)
 answers [] = []
 answers (Arrived u node ∷ before) = answers before
@@ -99,7 +99,7 @@ answers (Answered a ∷ before) = answers before ++ a ∷ []
 abbrev pub picks : ℕ → List Op → List (Option Turn)
 picks most ops = answers (history most [] ops)
 
--- ---- what is asked of a list of operations
+-- ---- what a list of operations must satisfy
 
 abbrev pub arriving : List Op → List Placed
 arriving [] = []
@@ -110,7 +110,7 @@ abbrev pub HaveComeOnce : List Placed → Type 0
 HaveComeOnce [] = Unit {0}
 HaveComeOnce (c ∷ cs) = (has_come c.turn cs ≡ false) × HaveComeOnce cs
 
--- a line with this bound may go over the operations: no turn arrives twice
+-- operations for a line with this bound: no turn arrives twice
 pub record MayRun (bound : ℕ) (ops : List Op) : Type 0 where
   pub bounded : bound ≤ 256
   pub apart : HaveComeOnce (arriving ops)
@@ -126,6 +126,6 @@ IsOnce given = (i j : ℕ) (u : Turn) → get_elem? given i ≡ some (Some u) �
 abbrev pub AreWithin : ℕ → List Did → Type 0
 AreWithin most past = (i : ℕ) (c : Placed) → get_elem? (arrivals past) i ≡ some c → waits past c ≡ true → passes past c.turn ≤ most
 
--- so it is at each moment
+-- this holds at each moment
 abbrev pub IsBounded : ℕ → List Op → Type 0
 IsBounded most ops = (before after : List Op) → ops ≡ before ++ after → AreWithin most (history most [] before)

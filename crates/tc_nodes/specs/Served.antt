@@ -1,4 +1,4 @@
--- What the steps of a queue, in their one order, are to its line: who arrived, who was picked, and who entered. Each list has the first one first.
+-- The steps of a queue, in their total order, as events of its line: who arrived, was picked, and entered.
 use Rattle.std.specs.Prelude.{◌≡◌, ◌≢◌, ◌⊎◌, ℕ, ◌+◌, ◌^◌, ◌<◌, ◌≤◌, ◌==◌, ◌||◌, if◌then◌else◌, Bool, false, List, [], ◌∷◌, ◌++◌, map, length, All, Option, Some, None}
 use Rattle.atomic_table.specs.Table.{State}
 use Rattle.tc_queue.specs.declared.turn.Turn.{Turn}
@@ -52,13 +52,13 @@ entries_of (m ∷ before) = entries_of before ++ entry_of m.call
 abbrev pub read_of : List Made → List Turn
 read_of order = map (λ (p : Placed). p.turn) (arriving (ops_of order))
 
--- ---- what the laws take
+-- ---- hypotheses of the lemmas
 
--- the line took in whatever was read
+-- the line accepted whatever was read
 abbrev pub RefusesNone : List Made → Type 0
 RefusesNone order = All (λ (m : Made). (number : ℕ) (p : Placed) → m.call ≢ Read number (Some p) false) order
 
--- no more entered, at any moment, than there are cells behind the one that was read last
+-- at no moment had more entered than there are cells behind the one that was read last
 abbrev pub HasRoom : NodeTerms → List Made → Type 0
 HasRoom k [] = Unit {0}
 HasRoom k (m ∷ before) = ((queue_after k (m ∷ before)).entered ≤ (queue_after k (m ∷ before)).stand.read + 65) × HasRoom k before
@@ -67,11 +67,11 @@ HasRoom k (m ∷ before) = ((queue_after k (m ∷ before)).entered ≤ (queue_af
 abbrev pub AreOnNode : ℕ → List Made → Type 0
 AreOnNode node order = All (λ (m : Made). (place other : ℕ) (u : Turn) → m.call ≡ Link place u other → other ≡ node) order
 
--- some list more makes it the other one
+-- a prefix of the other list
 abbrev pub IsFrontOf : List Turn → List Turn → Type 0
 IsFrontOf xs ys = (rest : List Turn) × (xs ++ rest ≡ ys)
 
--- whether a turn of the thread waits: it entered behind somebody, and no `next` has answered one of its turns since
+-- whether a turn of the thread waits: it entered behind somebody, and no `next` has answered a turn of the thread since
 abbrev pub waits_on : ℕ → LineStep → Bool → Bool
 waits_on t (Enter u (Behind place)) waited = (t == u.thread) || waited
 waits_on t (Next u node (Some x)) waited = if t == x.thread then false else waited
@@ -86,20 +86,20 @@ abbrev pub OneATime : List Made → Type 0
 OneATime [] = Unit {0}
 OneATime (m ∷ before) = ((u : Turn) (place : ℕ) → m.call ≡ Enter u (Behind place) → is_waiting u.thread before ≡ false) × OneATime before
 
--- ---- the laws
+-- ---- the lemmas
 
--- where the line refused no turn and none came twice, the answers of `next` are the picks of the definition, over all arrivals and picks of the one order
+-- if the line refused no turn and none came twice, the answers of `next` are those of the definition, over all events
 abbrev pub KeepsPicks : Type 0
 KeepsPicks = (k : NodeTerms) (s : State Stand Known) (r : IsOrdered k s) → RefusesNone r.order → HaveComeOnce (arriving (ops_of r.order)) → answers_of r.order ≡ picks k.bound (ops_of r.order)
 
--- where each thread had one turn at a time, the line refused no turn, and the cells sufficed
+-- if each thread had one turn at a time, the line refused no turn, and the cells sufficed
 abbrev pub KeepsRoom : Type 0
 KeepsRoom = (k : NodeTerms) (s : State Stand Known) (r : IsOrdered k s) → length r.order < 2 ^ 64 → OneATime r.order → HasRoom k r.order × RefusesNone r.order
 
--- where the cells sufficed, turns arrived in the order in which they entered
+-- if the cells sufficed, turns arrived in the order of entry
 abbrev pub KeepsArrivals : Type 0
 KeepsArrivals = (k : NodeTerms) (s : State Stand Known) (r : IsOrdered k s) → length r.order < 2 ^ 64 → HasRoom k r.order → IsFrontOf (read_of r.order) (entries_of r.order)
 
--- where besides the line refused no turn, and the bound is 0 or all are on one node, turns were served in the order in which they entered
+-- if also the line refused no turn, and the bound is 0 or all are on one node, turns were served in the order of entry
 abbrev pub KeepsEntry : Type 0
 KeepsEntry = (k : NodeTerms) (s : State Stand Known) (r : IsOrdered k s) → length r.order < 2 ^ 64 → HasRoom k r.order → RefusesNone r.order → (k.bound ≡ 0) ⊎ ((node : ℕ) × AreOnNode node r.order) → IsFrontOf (served (answers_of r.order)) (entries_of r.order)

@@ -1,4 +1,4 @@
--- What each kind of step tells the seat that makes it.
+-- What each kind of step says to its seat.
 use Rattle.std.specs.Prelude.{◌≡◌, ◌≢◌, ℕ, ◌+◌, ◌%◌, true, false, List, [], ◌∷◌, ◌++◌, Option, Some, None}
 use Rattle.atomic_table.specs.Table.{Me, Step, rest}
 use Rattle.tc_queue.specs.declared.turn.Turn.{Turn}
@@ -14,14 +14,14 @@ use Rattle.tc_nodes.specs.Line.{LineView, IsSteady}
 use Rattle.tc_nodes.specs.Cells.{IsPlaced, cell_at, cell_word}
 use Rattle.tc_nodes.specs.Order.{next_to, answer_to_enter, answer_to_leave, takes_in, stand_after, pick_of, stand_left}
 
--- what a seat knows, and the slots that it has
+-- the ghost state of a seat, and its slots
 abbrev pub Sitting : Type 0
 Sitting = Me Stand Known
 
 abbrev pub with_call : Known → LineStep → Known
 with_call v c = record v { calls = v.calls ++ c ∷ [] }
 
--- with the line in hand, or without it
+-- holding the line, or without it
 abbrev pub with_hand : Option Stand → Known → Known
 with_hand hand v = record v { hand = hand }
 
@@ -37,7 +37,7 @@ pub record IsLineFor (threads bound : ℕ) (l : LineView) : Type 0 where
   pub turns : AreTurns threads l.waiting
   pub steady : IsSteady bound l.waiting
 
--- what was found in a cell is one of such a queue
+-- what was found in a cell belongs to such a queue
 abbrev pub IsFound : ℕ → Option Placed → Type 0
 IsFound n found = (p : Placed) → found ≡ Some p → IsPlaced n p
 
@@ -64,7 +64,7 @@ did_leave u d h v = with_hand (Some (stand_left d h)) (with_call v (Leave u d))
 abbrev pub did_put_back : Known → Known
 did_put_back v = with_hand None (with_call v Back)
 
--- ---- the line in hand
+-- ---- holding the line
 
 -- the seat has the line out, with h in its slot
 pub record Holds (h : Stand) (m : Sitting) : Type 0 where
@@ -74,7 +74,7 @@ pub record Holds (h : Stand) (m : Sitting) : Type 0 where
 abbrev pub HasLine : Sitting → Type 0
 HasLine m = (h : Stand) × Holds h m
 
--- and it is one of the seat's queue
+-- and it is the line of the seat's queue
 abbrev pub HasOwnLine : Sitting → Type 0
 HasOwnLine m = (h : Stand) × Holds h m × IsLineFor m.0.threads m.0.bound h.line
 
@@ -107,7 +107,7 @@ pub record Links (place : ℕ) (u : Turn) (node : ℕ) (step : Step Stand) (m : 
   pub word_left : step.first ≡ cell_word (record { turn = u; node = node })
   pub now : m' ≡ (with_call m.0 (Link place u node), m.1)
 
--- the line was home, and is now in hand
+-- the line was in its slot, and the seat now holds it
 pub record Took (m m' : Sitting) : Type 0 where
   pub stand : Stand
   pub line : IsLineFor m.0.threads m.0.bound stand.line
@@ -129,7 +129,7 @@ pub record Reads (step : Step Stand) (m : Sitting) (word : ℕ) (m' : Sitting) :
   pub in_range : IsFound m.0.threads (cell_at word)
   pub now : m' ≡ (did_read (cell_at word) stand m.0, m.1)
 
--- a store of 0 on the word of the line, from which a turn was picked
+-- a store of 0 to the word of the line, after a turn was picked from it
 pub record Returns (u : Turn) (node : ℕ) (step : Step Stand) (m : Sitting) (word : ℕ) (m' : Sitting) : Type 0 where
   pub stand : Stand
   pub hand : m.0.hand ≡ Some stand
@@ -137,7 +137,7 @@ pub record Returns (u : Turn) (node : ℕ) (step : Step Stand) (m : Sitting) (wo
   pub left : step.first ≡ 0
   pub now : m' ≡ (did_next u node stand m.0, rest m.1)
 
--- the same where somebody waits in it
+-- the same while somebody waits in it
 pub record Stays (u : Turn) (step : Step Stand) (m : Sitting) (word : ℕ) (m' : Sitting) : Type 0 where
   pub place : step.word ≡ 1
   pub left : step.first ≡ 0
@@ -151,7 +151,7 @@ pub record Leaves (u : Turn) (step : Step Stand) (m : Sitting) (word : ℕ) (m' 
   pub words : (step.first ≡ next_to stand.read) × (step.second ≡ 0)
   pub now : m' ≡ (did_leave u (answer_to_leave word stand) stand m.0, m.1)
 
--- the line is put back as it is
+-- the line is put back unchanged
 pub record PutsBack (step : Step Stand) (m : Sitting) (word : ℕ) (m' : Sitting) : Type 0 where
   pub place : step.word ≡ 1
   pub left : step.first ≡ 0

@@ -1,4 +1,4 @@
--- What contracts see of a queue that knows nodes and of its seats.
+-- What contracts see of a NUMA-aware queue and of its seats.
 use Rattle.std.specs.Prelude.{◌≡◌, ◌≢◌, ◌⊎◌, ℕ, ◌%◌, ◌≤◌, Bool, false, true, is_some, MatchBool, List, [], ◌∷◌, ◌++◌, All, length, Option, Some, None}
 use mathlib.Core.Option.{some}
 use lib.ListN.{get_elem?}
@@ -39,7 +39,7 @@ seat_view table id node v = record { table = table; id = id; threads = v.threads
 abbrev pub IsSeatOf : NodeQueueView → NodeSeatView → Type 0
 IsSeatOf q s = (s.table ≡ q.table) × (s.threads ≡ q.threads)
 
--- with this seat of the queue the turn may be linked at a place that its `enter` answered
+-- the turn may be linked at a place that its `enter` answered, with this seat of the queue
 pub record MayLinkAt (q : NodeQueueView) (s : NodeSeatView) (u : Turn) (place : ℕ) : Type 0 where
   pub seat : IsSeatOf q s
   pub turn : IsTurn q.threads u
@@ -48,7 +48,7 @@ pub record MayLinkAt (q : NodeQueueView) (s : NodeSeatView) (u : Turn) (place : 
 abbrev pub with_calls : List LineStep → NodeSeatView → NodeSeatView
 with_calls cs s = record s { calls = s.calls ++ cs }
 
--- a seat of this queue and node that has made no step
+-- a seat of this queue and node without steps
 pub record IsNewSeat (q : NodeQueueView) (number : ℕ) (s : NodeSeatView) : Type 0 where
   pub table : s.table ≡ q.table
   pub threads : s.threads ≡ q.threads
@@ -71,23 +71,23 @@ pub record IsOpened (threads bound many nodes : ℕ) (q : NodeQueueView) (made :
 abbrev pub MaySeat : ℕ → ℕ → Type 0
 MaySeat many nodes = (1 ≤ nodes) × (nodes ≤ many) × (many ≤ 8)
 
--- the line was found out
+-- the line was out at each try
 abbrev pub AreMisses : List LineStep → Type 0
 AreMisses [] = Unit {0}
 AreMisses (c ∷ cs) = (c ≡ Take false) × AreMisses cs
 
--- the line was found out so often, and then taken
+-- the line was out so often, and then taken
 pub record AreTries (calls : List LineStep) : Type 0 where
   pub misses : List LineStep
   pub missed : AreMisses misses
   pub list : calls ≡ misses ++ Take true ∷ []
 
--- cells were read in order, with this line in hand at first and that one afterwards; the last one was empty
+-- cells were read in order; the first line became the second, and the last cell was empty
 abbrev pub AreReads : Stand → List LineStep → Stand → Type 0
 AreReads h [] g = ⊥
 AreReads h (c ∷ cs) g = ((c ≡ Read (next_to h.read) None false) × (cs ≡ []) × (g ≡ h)) ⊎ ((p : Placed) × (c ≡ Read (next_to h.read) (Some p) (takes_in (Some p) h)) × AreReads (stand_after (Some p) h) cs g)
 
--- what `next` of u for this node did: it took the line, read cells up to an empty one, and put the line back with this answer
+-- what `next` of u for this node did: took the line, read cells up to an empty one, put the line back with this answer
 pub record DidNext (u : Turn) (node : ℕ) (answer : Option Turn) (s t : NodeSeatView) : Type 0 where
   pub tries : List LineStep
   pub found : Stand
@@ -99,8 +99,8 @@ pub record DidNext (u : Turn) (node : ℕ) (answer : Option Turn) (s t : NodeSea
   pub answered : answer ≡ pick_of node stand
   pub list : t ≡ with_calls (tries ++ (reads ++ Next u node answer ∷ [])) s
 
--- what `leave` of u did: it took the line; where somebody waited it put it back; else it tried the exchange, which found this
--- count, and then put the line back
+-- what `leave` of u did: it took the line; if somebody waited it put it back; otherwise it tried
+-- the exchange, which found this count, and then put the line back
 pub data DidLeaveBy (u : Turn) (answer : Departure) (tries : List LineStep) (s t : NodeSeatView) : Type 0 where
   Stayed : answer ≡ Followed → t ≡ with_calls (tries ++ Stay u ∷ []) s → DidLeaveBy u answer tries s t
   Exchanged : (found : ℕ) (stand : Stand) → stand.line.waiting ≡ [] → answer ≡ answer_to_leave found stand → t ≡ with_calls (tries ++ Leave u answer ∷ Back ∷ []) s → DidLeaveBy u answer tries s t
@@ -110,7 +110,7 @@ pub record DidLeave (u : Turn) (answer : Departure) (s t : NodeSeatView) : Type 
   pub tried : AreTries tries
   pub did : DidLeaveBy u answer tries s t
 
--- a table of these terms is one of a queue
+-- a table of these parameters belongs to a queue
 pub record IsTableFor (threads bound : ℕ) (k : NodeTerms) (table : TableId) : Type 0 where
   pub of_threads : threads ≡ k.threads
   pub of_bound : bound ≡ k.bound
@@ -125,12 +125,12 @@ pub record IsTableFor (threads bound : ℕ) (k : NodeTerms) (table : TableId) : 
 abbrev pub IsSamePlace : Seat Stand Known → Seat Stand Known → Type 0
 IsSamePlace p q = (q.table_id ≡ p.table_id) × (q.id ≡ p.id)
 
--- a place of this queue, of whose seat this holds
+-- a place of this queue whose seat satisfies this
 pub record IsAt (q : NodeQueueView) (state : Sitting → Type 0) (p : Seat Stand Known) : Type 0 where
   pub own : p.table_id ≡ q.table
   pub holds : state p.me
 
--- and a step may be made from there for this turn, which is the one that the step names
+-- and a step may be made from there for this turn, which the step names
 pub record MayStepAt (q : NodeQueueView) (state : Sitting → Type 0) (u named : Turn) (p : Seat Stand Known) : Type 0 where
   pub at : IsAt q state p
   pub turn : IsTurn q.threads u
@@ -141,20 +141,20 @@ pub record DidAt (steps : Sitting → Sitting → Type 0) (p q : Seat Stand Know
   pub same : IsSamePlace p q
   pub did : steps p.me q.me
 
--- a try for the line, which was home or not
+-- a try for the line, which was in its slot or out
 pub record Tries (home : Bool) (m m' : Sitting) : Type 0 where
   pub took : home ≡ true → Took m m'
   pub missed : home ≡ false → m' ≡ (missed m.0, [])
 
--- the number of the cell that is to be read next; nothing was done
+-- the number of the cell that is read next; nothing was done
 abbrev pub IsNextCell : ℕ → Sitting → Sitting → Type 0
 IsNextCell number m m' = (m' ≡ m) × ((h : Stand) → Holds h m → number ≡ next_to h.read)
 
--- what is in the seat's slot was changed so, and nothing else
+-- what is in the seat's slot was changed like this, and nothing else
 abbrev pub Becomes : (Stand → Stand) → Sitting → Sitting → Type 0
 Becomes change m m' = (m'.0 ≡ m.0) × ((h : Stand) → m.1 ≡ (0, h) ∷ [] → m'.1 ≡ (0, change h) ∷ [])
 
--- the answer is what this node picks from the line in hand, which lost it
+-- the answer is what this node picks from the line that the seat holds, which loses it
 abbrev pub Picks : ℕ → Option Turn → Sitting → Sitting → Type 0
 Picks node answer m m' = ((h : Stand) → Holds h m → answer ≡ pick_of node h) × Becomes (without_pick node) m m'
 

@@ -1,6 +1,6 @@
-//! The words that the threads share, and the line, as a table under a rule; and what each kind of
-//! step on it tells. Word 0 counts who entered, word 1 is 1 where the line is out, and word j + 2
-//! is cell j. The one slot is for the line.
+//! The shared words and the line (the part of the waiting queue that holders have read) as an
+//! atomic table with its invariant, and what each kind of step says. Word 0 counts who entered,
+//! word 1 is 1 while the line is out, and word j + 2 is cell j. The one slot is for the line.
 
 ghost use Rattle.tc_nodes.specs.Steps.{Enters, Leaves, Links, PutsBack, Reads, Returns, Stays, Takes};
 
@@ -18,15 +18,15 @@ pub struct Stand {
     pub read: u64,
 }
 
-/// For what a queue is made.
+/// The parameters of a queue.
 #[derive(Drop)]
 pub struct NodeTerms {
     pub threads: u32,
     pub bound: u32,
 }
 
-/// What is known of a seat: for what its queue was made, the steps that it made, and the line,
-/// where it has it out. No value of it is made.
+/// What contracts know of a seat: the parameters of its queue, the steps made with it, and the line
+/// while the seat has it out. No value of this type exists.
 pub struct Known {
     pub threads: u32,
     pub bound: u32,
@@ -34,7 +34,7 @@ pub struct Known {
     pub hand: Option<Stand>,
 }
 
-/// The rule of the words and the line.
+/// The invariant of the words and the line.
 pub struct Ordered;
 
 impl TableRule<Stand, Known, NodeTerms> for Ordered {
@@ -49,7 +49,7 @@ pub(crate) type NodeTable = Table<Stand, Known, NodeTerms, Ordered, Global>;
 
 pub(crate) type NodeTableSeat = Seat<Stand, Known>;
 
-/// What a call names. Each call picks it.
+/// What a call names. Each call chooses it.
 pub trait Named {
     ghost use Rattle.std.specs.Prelude.{ℕ};
     ghost use Rattle.tc_queue.specs.declared.turn.Turn.{Turn};
@@ -99,7 +99,7 @@ impl Play<Stand, Known> for Read {
     ghost then = { Reads };
 }
 
-/// Puts the line back, from which a turn was picked.
+/// Puts the line back after a turn was picked from it.
 pub(crate) struct Return<J> {
     marker: PhantomData<J>,
 }
@@ -108,7 +108,7 @@ impl<J: Named> Play<Stand, Known> for Return<J> {
     ghost then = { Returns J.own J.node };
 }
 
-/// Puts the line back, in which somebody waits.
+/// Puts the line back while somebody waits in it.
 pub(crate) struct Stay<J> {
     marker: PhantomData<J>,
 }
@@ -125,14 +125,14 @@ impl<J: Named> Play<Stand, Known> for Leave<J> {
     ghost then = { Leaves J.own };
 }
 
-/// Puts the line back, as it is.
+/// Puts the line back unchanged.
 pub(crate) struct PutBack;
 
 impl Play<Stand, Known> for PutBack {
     ghost then = { PutsBack };
 }
 
-/// Makes one seat more.
+/// Adds a seat.
 pub(crate) struct AddNodeSeat;
 
 impl Split<Known> for AddNodeSeat {

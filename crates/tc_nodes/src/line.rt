@@ -8,7 +8,7 @@ use std::marker::Model;
 use tc_queue::Turn;
 
 /// A turn that waits, with the node on which it waits, and how often it was passed over: how often
-/// a turn was picked that had come after it.
+/// a turn that came after it was picked.
 #[derive(Clone, Copy, Drop)]
 pub struct Waiter {
     pub turn: Turn,
@@ -36,8 +36,8 @@ impl Model for Line {
 }
 
 impl Line {
-    /// A line for so many threads in which nobody waits. Nobody in it is ever passed over more
-    /// often than the bound says, and where the bound is 0, nobody is at all.
+    /// An empty line for so many threads. Nobody in it is passed over more often than the bound
+    /// says; with bound 0 nobody is at all.
     pub fn new(alloc: Global, threads: u32, bound: u32) -> Result<Line, AllocError>
         requires { MayLineUp threads bound }
         ensures { IfOk result (λ l. l ≡ record { threads = threads; bound = bound; waiting = [] }) }
@@ -69,8 +69,8 @@ impl Line {
         false
     }
 
-    /// Puts the turn at the end of the line. It does nothing, and answers false, exactly where the
-    /// turn waits already or so many turns wait as there are threads.
+    /// Puts the turn at the end of the line and answers true. It does nothing and answers false if
+    /// and only if the turn waits already or as many turns wait as there are threads.
     #[tactic(auto, using(crate::proofs::Steady::steady_more))]
     pub fn arrive(&mut self, turn: Turn, node: u32) -> bool
         ensures line { self.new ≡ arrived turn node self.old }
@@ -87,8 +87,8 @@ impl Line {
         true
     }
 
-    /// Whom a holder on this node is to pick: the oldest waiter where it was passed over as often as
-    /// may be, else the oldest of this node, else the oldest.
+    /// Whom a holder on this node has to pick: the oldest waiter if it was passed over as often as
+    /// the bound allows, else the oldest of this node, else the oldest.
     fn chosen(&self, node: u32) -> Option<Turn>
         ensures { result ≡ picked self.now.bound node self.now.waiting }
     {
@@ -104,7 +104,7 @@ impl Line {
         Some(oldest.turn)
     }
 
-    /// Takes out the turn that a holder on this node is to pick. None: nobody waits.
+    /// Takes out the turn that a holder on this node has to pick. None: nobody waits.
     #[tactic(auto, using(crate::proofs::Steady::looser))]
     pub fn pick(&mut self, node: u32) -> Option<Turn>
         ensures answer { result ≡ picked self.old.bound node self.old.waiting }
@@ -116,7 +116,7 @@ impl Line {
     }
 }
 
-/// Takes the turn out of the line, and counts a pass for each before it.
+/// Takes the turn out of the line, and counts a bypass for each turn before it.
 #[tactic(auto, using(crate::proofs::Steady::steady_at))]
 fn take_out(waiting: &mut Vec<Waiter>, turn: Turn)
     requires few { IsSteady 256 waiting.old.items }

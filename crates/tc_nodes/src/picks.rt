@@ -1,4 +1,4 @@
-//! A line over a whole list of arrivals and picks.
+//! A line over a whole list of arrivals and picks: its executable specification.
 
 ghost use Rattle.std.specs.Prelude.{◌≡◌, IfOk};
 ghost use Rattle.tc_nodes.specs.Picks.{IsBounded, IsOnce, MayRun, picks};
@@ -16,8 +16,8 @@ pub enum Op {
     Pick(u32),
 }
 
-/// The answers of the picks, in order, in a line that nobody is in at first. It says what a line
-/// comes to over a whole list of operations, where passes are counted over all that happened.
+/// The answers of the picks, in order, for a line that is empty at first. This defines a line over
+/// a whole list of operations; bypasses are counted over all of them.
 #[tactic(auto, using(crate::proofs::Ran::bounded))]
 pub fn run_line(alloc: Global, bound: u32, ops: &[Op]) -> Result<Vec<Option<Turn>>, AllocError>
     requires { MayRun bound ops.now }

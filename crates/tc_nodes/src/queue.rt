@@ -1,4 +1,4 @@
-//! The queue of the waiters of one lock, which knows on which node each of them waits, and its
+//! The waiting queue of one lock that knows on which node each waiter is, and its
 //! seats.
 
 ghost use Rattle.std.specs.Prelude.{◌≡◌, ℕ, IfOk, [], ◌∷◌, Some};
@@ -48,8 +48,8 @@ impl Model for NodeQueue {
     ghost invariant = { λ q. IsTableFor q.threads q.bound q.board.shared.key q.board.shared.table_id };
 }
 
-/// What a caller makes its calls with. A seat belongs to one queue and one node, and has the list
-/// of the steps that were made with it.
+/// A handle through which a caller makes its calls. A seat belongs to one queue and one node;
+/// contracts see the list of the steps that were made with it.
 #[derive(Drop)]
 pub struct NodeSeat {
     place: NodeTableSeat,
@@ -68,9 +68,9 @@ impl Model for NodeSeat {
 }
 
 impl NodeQueue {
-    /// A queue for so many threads with nobody in it, and its seats, of which each is on the node
-    /// of its number modulo the number of nodes. Once a waiter's turn is in the line, no more turns
-    /// that came after it are picked before it than the bound says.
+    /// An empty queue for so many threads, and its seats, each on the node of its number modulo the
+    /// number of nodes. Once a waiter's turn is in the line, at most as many later turns are picked
+    /// before it as the bound says.
     pub fn new(
         alloc: Global,
         threads: u32,
@@ -111,8 +111,8 @@ impl NodeQueue {
         Ok((queue, made))
     }
 
-    /// Counts one more who entered. Nobody was there exactly where the count was 0; else the place
-    /// is what the count was.
+    /// Counts one more who entered. If the count was 0, nobody was there; otherwise the place is
+    /// the old count.
     pub fn enter(&self, seat: &mut NodeSeat, turn: Turn) -> Entered
         requires { MayCall (queue_as self.now) (seat_as seat.old) turn }
         ensures call { seat.new ≡ with_calls (Enter turn result ∷ []) seat.old }
@@ -157,9 +157,9 @@ impl NodeQueue {
             .store::<board::Link<J>>(&mut seat.place, cell, placed.to_word());
     }
 
-    /// The turn that comes after this one, of those that are linked: the oldest, where it was
-    /// passed over as often as may be, else the oldest of the seat's node, else the oldest. It waits
-    /// while another seat has the line.
+    /// The turn that comes after this one, of those that are linked: the oldest if it was passed
+    /// over as often as the bound allows, else the oldest of the seat's node, else the oldest. It
+    /// waits while another seat has the line.
     pub fn next<R: Wait>(&self, rt: &R, seat: &mut NodeSeat, own: Turn) -> Option<Turn>
         requires { MayCall (queue_as self.now) (seat_as seat.old) own }
         ensures next { DidNext own seat.old.node result seat.old seat.new }
@@ -170,7 +170,7 @@ impl NodeQueue {
         self.give::<Brand>(&mut seat.place, &own, seat.node)
     }
 
-    /// Leaves, where nobody waits in the line and everyone who entered was read but the first. It
+    /// Leaves, if nobody waits in the line and everyone who entered was read but the first. It
     /// waits while another seat has the line.
     pub fn leave<R: Wait>(&self, rt: &R, seat: &mut NodeSeat, own: Turn) -> Departure
         requires { MayCall (queue_as self.now) (seat_as seat.old) own }
@@ -186,7 +186,7 @@ impl NodeQueue {
         answer
     }
 
-    /// Takes the line, where it is home.
+    /// Takes the line, if it is in its slot.
     fn try_take(&self, place: &mut NodeTableSeat) -> bool
         requires { IsAt self.now HasNoSlot place.old }
         ensures { DidAt (Tries result) place.old place.new }
@@ -197,7 +197,7 @@ impl NodeQueue {
             == 0
     }
 
-    /// Takes the line, with as many tries as it takes.
+    /// Takes the line, with as many tries as needed.
     fn take<R: Wait>(&self, rt: &R, place: &mut NodeTableSeat)
         requires { IsAt self.now HasNoSlot place.old }
         ensures { DidAt IsTaken place.old place.new }
@@ -211,7 +211,7 @@ impl NodeQueue {
         }
     }
 
-    /// The number of the cell that is to be read next.
+    /// The number of the next cell to read.
     fn next_cell(&self, place: &mut NodeTableSeat) -> u64
         requires { IsAt self.now HasLine place.old }
         ensures { DidAt (IsNextCell result) place.old place.new }
@@ -230,7 +230,7 @@ impl NodeQueue {
         stand.line.arrive(found.turn, found.node);
     }
 
-    /// Reads the next cell, and says whether something was there.
+    /// Reads the next cell, and says whether it had a turn.
     fn read_cell(&self, place: &mut NodeTableSeat) -> bool
         requires { IsAt self.now HasLine place.old }
         ensures { DidAt (DidRead result) place.old place.new }
@@ -261,7 +261,7 @@ impl NodeQueue {
         }
     }
 
-    /// Picks from the line in hand.
+    /// Picks from the line that was taken.
     fn pick(&self, place: &mut NodeTableSeat, node: u32) -> Option<Turn>
         requires { IsAt self.now HasLine place.old }
         ensures { DidAt (Picks node result) place.old place.new }
@@ -282,7 +282,7 @@ impl NodeQueue {
         answer
     }
 
-    /// Whether somebody waits in the line in hand.
+    /// Whether somebody waits in the line that was taken.
     fn has_waiter(&self, place: &mut NodeTableSeat) -> bool
         requires { IsAt self.now HasLine place.old }
         ensures { DidAt (TellsWaiting result) place.old place.new }
@@ -291,7 +291,7 @@ impl NodeQueue {
         !stand.line.is_empty()
     }
 
-    /// Puts the line back, in which somebody waits.
+    /// Puts the line back while somebody waits in it.
     fn stay<J: Named>(&self, place: &mut NodeTableSeat, own: &Turn)
         requires { MayStepAt self.now HasWaiter own.now J.own place.old }
         ensures { DidAt (λ m n. n ≡ (did_stay own.now m.0, [])) place.old place.new }
@@ -300,7 +300,7 @@ impl NodeQueue {
         self.board.shared.store::<board::Stay<J>>(place, 1, 0);
     }
 
-    /// No cell was read since nobody was there.
+    /// Forgets the cells that were read: nobody is there.
     fn forget_cells(&self, place: &mut NodeTableSeat)
         requires { IsAt self.now HasSlot place.old }
         ensures { DidAt (Becomes (stand_left Left)) place.old place.new }
@@ -309,7 +309,7 @@ impl NodeQueue {
         stand.read = 0;
     }
 
-    /// Sets the count to 0, where everyone who entered was read but the first.
+    /// Sets the count to 0, if everyone who entered was read but the first.
     fn exchange<J: Named>(&self, place: &mut NodeTableSeat, own: &Turn) -> Departure
         requires { MayStepAt self.now HasNoWaiter own.now J.own place.old }
         ensures { DidAt (DidExchange own.now result) place.old place.new }
@@ -327,7 +327,7 @@ impl NodeQueue {
         Departure::Left
     }
 
-    /// Puts the line back as it is.
+    /// Puts the line back unchanged.
     fn put_back(&self, place: &mut NodeTableSeat)
         requires { IsAt self.now HasLine place.old }
         ensures { DidAt (λ m n. n ≡ (did_put_back m.0, [])) place.old place.new }

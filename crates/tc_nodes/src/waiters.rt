@@ -1,4 +1,4 @@
-//! The queue that knows nodes, as an order of waiters.
+//! The NUMA-aware queue as an order of waiters.
 
 ghost use Rattle.tc_nodes.specs.Lines.{queue_as, seat_as};
 

@@ -1,14 +1,14 @@
-//! Lists that only clauses read.
+//! Lists that only contracts read (ghost lists).
 //!
-//! A type whose numbers stand for a list of things, which it does not keep, has that list as a
-//! `Noted`: what was put into it, in its order. Clauses and invariants read it as a list; the
-//! program cannot. It takes no memory, and noting a thing does nothing when the program runs.
+//! A type may represent a list by numbers alone. It then has the list itself as a `Noted`: what was
+//! added to it, in order. Contracts and invariants read it as a list; the program cannot. It takes
+//! no memory, and noting a thing has no effect when the program runs.
 //!
-//! To whoever uses it it promises that the list is empty at first, and that each note adds the thing
-//! at its end. It does not say that whoever holds it notes all that it should: that is for the
-//! clauses of the holder.
+//! Promises: the list is empty at first, and each note appends its thing. It does not
+//! promise that the holder notes all that it should; the holder's own contracts have to say
+//! so.
 //!
-//! - `specs/Items.antt`: the list, as the chain of its snapshots has it.
+//! - `specs/Items.antt`: the list, read from the chain of its snapshots.
 #![tactic(auto)]
 
 ghost use Rattle.std.specs.Prelude.{◌≡◌, [], ◌∷◌, ◌++◌};
@@ -16,7 +16,7 @@ ghost use Rattle.std.specs.Prelude.{◌≡◌, [], ◌∷◌, ◌++◌};
 use std::marker::Model;
 use std::snapshot::Snapshot;
 
-/// A list of things that only clauses read: those that were noted, in their order.
+/// A list that only contracts read: the things that were noted, in their order.
 #[cycle(noted)]
 #[derive(Drop)]
 pub struct Noted<T> {
@@ -57,7 +57,7 @@ impl<T> Noted<T> {
         }
     }
 
-    /// Notes a thing behind those that were noted.
+    /// Appends a thing to those that were noted.
     pub fn note(&mut self, x: &T)
         ensures { self.new ≡ self.old ++ x.now ∷ [] }
     {

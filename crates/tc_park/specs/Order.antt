@@ -1,4 +1,4 @@
--- Who wakes first. Sleepers are a list with a place for each thread: the turn at which it is due, or nothing where it doesn't sleep.
+-- Who wakes first. Sleepers are a list with an entry for each thread: the turn when it is due, or None if it is awake.
 use Rattle.std.specs.Prelude.{◌≡◌, ◌⊎◌, ℕ, ◌<◌, ◌≤◌, List, length, slice_index_or, slice_set, Bool, false, Option, Some, None, IfSome}
 use Rattle.tc_park.specs.declared.sleepers.Sleeper.{Sleeper}
 
@@ -6,7 +6,7 @@ use Rattle.tc_park.specs.declared.sleepers.Sleeper.{Sleeper}
 abbrev pub Sleeps : List (Option ℕ) → ℕ → ℕ → Type 0
 Sleeps s thread due = slice_index_or s thread None ≡ Some due
 
--- by due turn, and at one due turn by number
+-- the lesser due turn first; of equal due turns the lesser number
 abbrev pub ComesFirst : ℕ → ℕ → ℕ → ℕ → Type 0
 ComesFirst thread due other later = (due < later) ⊎ ((due ≡ later) × (thread ≤ other))
 
@@ -34,18 +34,18 @@ pub record IsLeast (s : List (Option ℕ)) (due : ℕ) : Type 0 where
   pub sleeps : Sleeps s thread due
   pub least : (other later : ℕ) → Sleeps s other later → due ≤ later
 
--- of those of whom `In` tells when they are due, this is the first, or there are none
+-- the first of those for which `In` gives a due turn, or there are none
 abbrev pub IsFirstOf : (ℕ → ℕ → Type 0) → Option Sleeper → Type 0
 IsFirstOf In None = (other later : ℕ) → In other later → ⊥
 IsFirstOf In (Some z) = In z.thread z.due × ((other later : ℕ) → In other later → ComesFirst z.thread z.due other later)
 
--- one of a sleeper, if there is one, and of this thread until this turn, which comes before the other one
+-- the earlier of two: a sleeper, if there is one, and this thread until this turn
 pub record IsEarlier (first : Option Sleeper) (thread due : ℕ) (z : Sleeper) : Type 0 where
   pub one : (first ≡ Some z) ⊎ (z ≡ record { thread = thread; due = due })
   pub before_first : IfSome first (λ s. ComesFirst z.thread z.due s.thread s.due)
   pub before_thread : ComesFirst z.thread z.due thread due
 
--- what sleepers keep beside their places: how many these are, the first sleeper, and whether others may sleep too
+-- the invariant of sleepers: how many entries there are, the first sleeper, and whether others may sleep too
 pub record IsKept (room : ℕ) (s : List (Option ℕ)) (first : Option Sleeper) (others : Bool) : Type 0 where
   pub places : length s ≡ room
   pub first_is : IsFirstOf (Sleeps s) first

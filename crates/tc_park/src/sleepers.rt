@@ -51,7 +51,7 @@ impl Sleepers {
         })
     }
 
-    /// For how many threads it was made.
+    /// The number of threads that it was made for.
     pub fn room(&self) -> u32
         ensures { result ≡ length self.now }
     {
@@ -74,7 +74,7 @@ impl Sleepers {
         }
     }
 
-    /// Takes out the first sleeper, where it is due by now.
+    /// Removes the first sleeper, if it is due by now.
     pub fn due(&mut self, now: u64) -> Option<u32>
         ensures taken { self.new ≡ without result self.old }
         ensures first { MatchOption result (NoneIsDue now self.old) (λ t. IsFirstDue now self.old t) }

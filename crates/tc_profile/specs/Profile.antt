@@ -1,4 +1,4 @@
--- What a history shows of delegation: the numbers of each lock and each thread, as functions of the list of blocks.
+-- What a history shows of delegation: the numbers of each lock and each thread, as functions of the history.
 use Rattle.std.specs.Prelude.{ℕ, ◌+◌, ◌==◌, not, max, Bool, true, false, if◌then◌else◌, List, [], ◌∷◌, ◌++◌, map, filter, drop, length, Option, Some, None, option_map, sum_by}
 use Rattle.tc_journal.specs.Batch.{begins, is_adopted, run_of, last_of}
 use Rattle.tc_journal.specs.History.{of_lock, of_thread}
@@ -8,7 +8,7 @@ use Rattle.tc_journal.specs.declared.block.Kind.TheVariants.{Start, On, Taken, A
 use Rattle.tc_profile.specs.declared.tally.LockProfile.{LockProfile}
 use Rattle.tc_profile.specs.declared.tally.ThreadProfile.{ThreadProfile}
 
--- ---- words on numbers
+-- ---- functions on numbers
 
 abbrev pub one_if : Bool → ℕ
 one_if v = if v then 1 else 0
@@ -18,17 +18,17 @@ abbrev pub greatest : List ℕ → ℕ
 greatest [] = 0
 greatest (n ∷ ns) = max n (greatest ns)
 
--- there is such a number, and it is another one
+-- there is such a number, and it differs
 abbrev pub is_other : Option ℕ → ℕ → Bool
 is_other None n = false
 is_other (Some m) n = not (m == n)
 
--- how many of some numbers are other ones than the number before, where this one, if there is one, is before the first
+-- how many numbers differ from the number before, where this one, if there is one, is before the first
 abbrev pub changes_behind : Option ℕ → List ℕ → ℕ
 changes_behind before [] = 0
 changes_behind before (n ∷ ns) = one_if (is_other before n) + changes_behind (Some n) ns
 
--- how many numbers of a list, from the second on, are other ones than the number before
+-- how many numbers of a list, from the second on, differ from the number before
 abbrev pub changes_in : List ℕ → ℕ
 changes_in ns = changes_behind None ns
 
@@ -56,7 +56,7 @@ pub record Placed : Type 0 where
   pub before : List Block
   pub block : Block
 
--- each block of a list with those before it, of which these stand before the list
+-- each block of a list with those before it, where these blocks precede the list
 abbrev pub placed_behind : List Block → List Block → List Placed
 placed_behind before [] = []
 placed_behind before (b ∷ bs) = record { before = before; block = b } ∷ placed_behind (before ++ b ∷ []) bs
@@ -75,7 +75,7 @@ sections_placed h lock = filter (λ p. begins lock p.block) (each_placed h)
 abbrev pub of_kind : (Kind → Bool) → List Placed → ℕ
 of_kind is_kind sections = length (filter (λ p. is_kind p.block.kind) sections)
 
--- the streak with a section: how many Adopted sections of the lock stand in a row up to it
+-- the streak with a section: the number of consecutive Adopted sections of the lock up to it
 abbrev pub streak_with : ℕ → Placed → ℕ
 streak_with lock p = run_of lock (of_lock (p.before ++ p.block ∷ []) lock)
 
@@ -91,12 +91,12 @@ is_change lock p = is_other (option_map worker_of (last_of (of_lock p.before loc
 abbrev pub changes : ℕ → List Placed → ℕ
 changes lock sections = length (filter (is_change lock) (drop 1 sections))
 
--- the worker of this block, which is the one before, or of the block itself where there is none before
+-- the worker of this block before, or of the block itself if there is none before
 abbrev pub worker_or_own : Option Block → Block → ℕ
 worker_or_own None b = b.worker
 worker_or_own (Some before) b = before.worker
 
--- the home worker of a section: where its thread ran last, or the section's own where it ran nowhere yet
+-- the home worker of a section: where its thread ran last, or the section's own if it ran nowhere yet
 abbrev pub home_worker : Placed → ℕ
 home_worker p = worker_or_own (last_of (of_thread p.before p.block.thread)) p.block
 

@@ -1,4 +1,4 @@
--- The text of a profile, line by line. Each line ends with the byte 10.
+-- The text of a profile, line by line. Each line ends with a newline, the byte 10.
 use Rattle.std.specs.Prelude.{ℕ, List, [], ◌∷◌, ◌++◌, codes, decimal, length}
 use Rattle.std.specs.List.{range_with_len, flat_map}
 use Rattle.tc_elf.specs.Shown.{Shown}

@@ -14,8 +14,8 @@ use tc_journal::block::Block;
 use tc_noted::Noted;
 
 /// The numbers of all threads and all locks of a guest, for the blocks that were added. They are
-/// counted in 64 bits, which no number of 2^32 blocks goes past. Clauses see the history of all these
-/// blocks; the program keeps the numbers alone.
+/// counted in 64 bits, which 2^32 blocks never overflow. Contracts see the history of these blocks;
+/// the program keeps only the numbers.
 #[derive(Drop)]
 pub struct Profile {
     history: Noted<Block>,
@@ -54,7 +54,7 @@ fn add_to_locks(locks: &mut [LockTally], block: &Block, home: u32)
 }
 
 impl Profile {
-    /// The profile of no block, with the threads and locks of an image.
+    /// The profile of no blocks, with the threads and locks of an image.
     pub fn new(alloc: Global, image: &Image) -> Result<Profile, AllocError>
         ensures history { IfOk result (λ p. p.history ≡ []) }
         ensures threads { IfOk result (λ p. p.threads ≡ length image.now.entries) }
@@ -67,7 +67,7 @@ impl Profile {
         })
     }
 
-    /// Adds a block at the end of the history. It takes no memory.
+    /// Appends a block to the history. It allocates nothing.
     pub fn add(&mut self, block: &Block)
         requires few { length self.old.history < 2 ^ 32 }
         requires thread { block.now.thread < self.old.threads }

@@ -1,4 +1,4 @@
-//! The numbers of one lock and of one thread, which grow with each block.
+//! The numbers of one lock and of one thread, updated by each block.
 
 ghost use Rattle.std.specs.Prelude.{◌≡◌, [], true, if◌then◌else◌};
 ghost use Rattle.tc_journal.specs.Batch.{is_adopted};
@@ -7,8 +7,8 @@ ghost use Rattle.tc_profile.specs.Tally as tally;
 
 use tc_journal::block::{Block, Kind};
 
-/// What a history shows of a lock. A section's home worker is the one that ran its thread's block
-/// before it, or its own where there is none.
+/// The numbers of a lock in a history. A section's home worker is the one that ran its thread's
+/// previous block, or its own worker if there is none.
 #[derive(Clone, Copy, Debug, PartialEq, Eq)]
 pub struct LockProfile {
     /// How many sections it had.
@@ -19,22 +19,22 @@ pub struct LockProfile {
     pub adopted: u64,
     /// How many were granted.
     pub granted: u64,
-    /// How many adopted ones stand in a row at most: the longest streak.
+    /// The longest streak: the greatest number of consecutive adopted sections.
     pub longest: u64,
-    /// Changes of worker: how many of them, from the second on, began on another worker than that
-    /// of the lock's block before.
+    /// Changes of worker: how many sections, from the second on, began on another worker than the
+    /// lock's block before.
     pub changes: u64,
-    /// How many of them, from the second on, have another home worker than the section before:
-    /// so often the worker would have changed, had each section run where its thread ran last.
+    /// How often the home worker differs between consecutive sections: so often the worker would
+    /// have changed, had each section run where its thread ran last.
     pub home: u64,
 }
 
-/// What a history shows of a thread.
+/// The numbers of a thread in a history.
 #[derive(Clone, Copy, Debug, PartialEq, Eq)]
 pub struct ThreadProfile {
     /// How many blocks it had.
     pub blocks: u64,
-    /// How many turns they had.
+    /// How many steps they had.
     pub turns: u64,
     /// How many of them, from the second on, had another worker than the block before.
     pub moves: u64,
@@ -57,7 +57,7 @@ pub struct ThreadTally {
     pub(crate) last: Option<u32>,
 }
 
-/// A count with one more, where there is one more.
+/// A count, incremented if there is one more.
 fn plus(more: bool, count: u64) -> u64
     ensures { result ≡ tally.plus more count }
 {
@@ -86,7 +86,7 @@ fn streak_after(kind: Kind, streak: u64) -> u64
 }
 
 impl LockTally {
-    /// The numbers of a lock in no history.
+    /// The numbers of a lock in an empty history.
     pub fn new() -> LockTally
         ensures { result ≡ tally.lock_tally [] 0 }
     {
@@ -106,7 +106,7 @@ impl LockTally {
         }
     }
 
-    /// With a section more, begun by this block, whose home worker is this.
+    /// Adds a section, begun by this block, with this home worker.
     fn begin(self, block: &Block, home: u32) -> LockTally
         ensures { result ≡ tally.with_section block.now home self }
     {
@@ -136,7 +136,7 @@ impl LockTally {
         }
     }
 
-    /// With one block of the lock more, whose home worker is this.
+    /// Adds one block of the lock, with this home worker.
     pub fn with_block(self, lock: u32, block: &Block, home: u32) -> LockTally
         ensures { result ≡ tally.lock_after lock block.now home self }
     {
@@ -151,7 +151,7 @@ impl LockTally {
 }
 
 impl ThreadTally {
-    /// The numbers of a thread in no history.
+    /// The numbers of a thread in an empty history.
     pub fn new() -> ThreadTally
         ensures { result ≡ tally.thread_tally [] 0 }
     {
@@ -165,7 +165,7 @@ impl ThreadTally {
         }
     }
 
-    /// With one block of the thread more.
+    /// Adds one block of the thread.
     pub fn with_block(self, block: &Block) -> ThreadTally
         ensures { result ≡ tally.thread_after block.now self }
     {
@@ -184,7 +184,7 @@ impl ThreadTally {
         }
     }
 
-    /// The home worker of a block of the thread that comes next.
+    /// The home worker of the thread's next block.
     pub fn home(&self, block: &Block) -> u32
         ensures { result ≡ tally.home_in self.now.last block.now }
     {

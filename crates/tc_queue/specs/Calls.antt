@@ -1,4 +1,4 @@
--- What the calls of a queue answer, by the tail or the link that they find, and what they leave.
+-- What the calls of a queue answer, given the tail or the link that they find, and what they leave.
 use Rattle.std.specs.Prelude.{◌≡◌, ◌≢◌, ℕ, ◌<◌, ◌==◌, ◌&&◌, Bool, false, if◌then◌else◌, List, [], ◌∷◌, ◌++◌, Option, Some, None}
 use mathlib.Core.Option.{some}
 use lib.ListN.{get_elem?}
@@ -15,12 +15,12 @@ use Rattle.tc_queue.specs.Words.{IsTurn, IsLinked}
 
 -- ---- answers
 
--- Nobody is there, or the turn at the tail
+-- nobody is there, or the turn at the tail
 abbrev pub answer_to_enter : Option Turn → Entered
 answer_to_enter None = First
 answer_to_enter (Some last) = Behind last
 
--- the turn behind this one, where the link of its thread is of this number
+-- the turn behind this one, if the link of its thread is of this number
 abbrev pub answer_to_next : Turn → Option Linked → Option Turn
 answer_to_next u None = None
 answer_to_next u (Some l) = if l.before == u.number then Some l.behind else None
@@ -33,7 +33,7 @@ is_last u (Some last) = (last.thread == u.thread) && (last.number == u.number)
 abbrev pub answer_to_leave : Turn → Option Turn → LeaveAnswer
 answer_to_leave u tail = if is_last u tail then Left else Followed tail
 
--- ---- calls with their answers, and effects: the tail that a call leaves, and the list of the seat that made it
+-- ---- calls with their answers, and effects: the tail after a call, and the list of the seat that made it
 
 abbrev pub with_call : SeatLog → QueueCall → SeatLog
 with_call v c = record v { calls = v.calls ++ c ∷ [] }
@@ -64,7 +64,7 @@ IsTail n tail = (u : Turn) → tail ≡ Some u → IsTurn n u
 abbrev pub IsLink : ℕ → Option Linked → Type 0
 IsLink n link = (l : Linked) → link ≡ Some l → IsLinked n l
 
--- one step of `enter`: the tail that it found and the one that it left, with the seat's list before and after
+-- one step of `enter`: the tail before and after, and the seat's list before and after
 pub record DidEnter (n : ℕ) (u : Turn) (answer : Entered) (v w : SeatLog) : Type 0 where
   pub found : Option Turn
   pub tail : Option Turn
@@ -80,7 +80,7 @@ pub record DidLeave (n : ℕ) (u : Turn) (answer : LeaveAnswer) (v w : SeatLog) 
   pub answers : answer ≡ answer_to_leave u found
   pub effect : (tail, w) ≡ leave_effect u found v
 
--- ---- what a seat's list says
+-- ---- what a seat's list implies
 
 -- u entered behind b
 abbrev pub HasEntered : List QueueCall → Turn → Turn → Type 0

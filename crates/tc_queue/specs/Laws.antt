@@ -1,4 +1,4 @@
--- What holds of all seats of a queue together, and of its tail beside the line of a lock.
+-- What holds for all seats of a queue together, and for its tail as the waiting queue of a lock.
 use Rattle.std.specs.Prelude.{◌≡◌, ℕ, List, [], ◌∷◌, ◌++◌, Option, Some, None}
 use mathlib.Core.Option.{some}
 use lib.ListN.{get_elem?}
@@ -11,7 +11,7 @@ use Rattle.tc_queue.specs.declared.board.SeatLog.{SeatLog}
 use Rattle.tc_queue.specs.Calls.{HasEntered, answer_to_enter, answer_to_leave, enter_effect, leave_effect}
 use Rattle.tc_queue.specs.Order.{IsOrdered}
 
--- ---- who is served
+-- ---- order of service
 
 -- the list of some seat shows that u entered behind b
 abbrev pub IsShown : List SeatLog → Turn → Turn → Type 0
@@ -24,14 +24,14 @@ AreServed logs = (id : ℕ) (v : SeatLog) (i : ℕ) (b u : Turn) → get_elem? l
 abbrev pub Serves : Type 0
 Serves = (n : ℕ) (s : State ℕ SeatLog) → IsOrdered n s → AreServed s.views
 
--- ---- the line of a lock: threads in the order of entry
+-- ---- the waiting queue of a lock: threads in the order of entry
 
--- both are empty, or the tail is the turn of the last thread
+-- the tail represents the queue: both are empty, or the tail is the turn of the last thread
 abbrev pub Shows : Option Turn → List ℕ → Type 0
 Shows None line = line ≡ []
 Shows (Some u) line = (front : List ℕ) × (line ≡ front ++ u.thread ∷ [])
 
--- after an `enter` the tail shows the line with the entrant at its end, and the entrant stands behind the one who was last
+-- after an `enter` the tail represents the queue with the entrant at its end, who is behind the one that was last
 pub record EnterTies (u : Turn) (tail : Option Turn) (v : SeatLog) (line : List ℕ) : Type 0 where
   pub shows : Shows (enter_effect u tail v).0 (line ++ u.thread ∷ [])
   pub before : (b : Turn) → answer_to_enter tail ≡ Behind b → (front : List ℕ) × (line ≡ front ++ b.thread ∷ [])
@@ -39,6 +39,6 @@ pub record EnterTies (u : Turn) (tail : Option Turn) (v : SeatLog) (line : List 
 abbrev pub EnterTie : Type 0
 EnterTie = (u : Turn) (tail : Option Turn) (v : SeatLog) (line : List ℕ) → Shows tail line → EnterTies u tail v line
 
--- a `leave` that answers Left of a line of one thread is of that thread, and leaves an empty line
+-- a `leave` that answers Left at a queue of one thread is of that thread, and leaves an empty queue
 abbrev pub LeaveTie : Type 0
 LeaveTie = (u : Turn) (tail : Option Turn) (v : SeatLog) (only : ℕ) → Shows tail (only ∷ []) → answer_to_leave u tail ≡ Left → (only ≡ u.thread) × Shows (leave_effect u tail v).0 []

@@ -1,4 +1,4 @@
--- What contracts see of any order of waiters: which queue, and in a seat the calls that were made with it.
+-- What contracts see of any order of waiters: which queue, and for a seat the calls that were made with it.
 use Rattle.std.specs.Prelude.{◌≡◌, ◌≢◌, ℕ, ◌+◌, ◌*◌, ◌^◌, ◌<◌, List, [], ◌∷◌, ◌++◌, map, Option}
 use mathlib.Core.Option.{some}
 use lib.ListN.{get_elem?}
@@ -19,7 +19,7 @@ use Rattle.tc_queue.specs.View.{QueueView, OwnView}
 
 -- ---- any order of waiters
 
--- nobody was there, or the mark of the place behind which the entrant stands
+-- nobody was there, or the mark of the place behind which the entrant is
 pub data Entered : Type 0 where
   First : Entered
   Behind : ℕ → Entered
@@ -39,7 +39,7 @@ pub record SeatView : Type 0 where
 abbrev pub IsSeatOf : QueueView → SeatView → Type 0
 IsSeatOf q s = (s.table ≡ q.table) × (s.threads ≡ q.threads)
 
--- with this seat of the queue a call for this turn may be made
+-- a call for this turn may be made with this seat of the queue
 pub record MayCall (q : QueueView) (s : SeatView) (u : Turn) : Type 0 where
   pub seat : IsSeatOf q s
   pub turn : IsTurn q.threads u
@@ -56,11 +56,11 @@ abbrev pub answer : {P : Type 0} → (P → ℕ) → Arrival P → Entered
 answer mark Came_first = First
 answer mark (Came_behind place) = Behind (mark place)
 
--- an `enter` of u answered the place of this mark, and u was not linked since
+-- an `enter` of u answered the place of this mark, and u has not been linked since
 abbrev pub MayLinkTo : List LineCall → Turn → ℕ → Type 0
 MayLinkTo calls u mark = (i : ℕ) × (get_elem? calls i ≡ some (Enter u (Behind mark))) × ((j other : ℕ) → i < j → get_elem? calls j ≢ some (Link other u))
 
--- with this seat of the queue the turn may be linked to the place of this mark
+-- the turn may be linked to the place of this mark with this seat of the queue
 pub record MayLinkWith (q : QueueView) (s : SeatView) (u : Turn) (mark : ℕ) : Type 0 where
   pub seat : IsSeatOf q s
   pub turn : IsTurn q.threads u

@@ -1,5 +1,5 @@
--- The rule of a queue: all calls that were made stand in one order, in which each seat's calls stand as it made them,
--- in which a plain queue would have answered each of them as it was answered, and after which that queue is what the words say.
+-- The invariant of a queue: all calls have a total order that respects the order of each seat's calls, in
+-- which a sequential queue answers each of them as it was answered, and whose final state the words represent.
 use Rattle.std.specs.Prelude.{◌≡◌, ℕ, ◌+◌, ◌<◌, ◌≤◌, ◌==◌, if◌then◌else◌, List, [], ◌∷◌, ◌++◌, All, length, slice_index, Option, Some, None}
 use mathlib.Core.Option.{some}
 use lib.ListN.{get_elem?}
@@ -12,7 +12,7 @@ use Rattle.tc_queue.specs.declared.board.SeatLog.{SeatLog}
 use Rattle.tc_queue.specs.Words.{IsTurn, turn_word, link_word}
 use Rattle.tc_queue.specs.Calls.{answer_to_enter, answer_to_next, answer_to_leave, tail_without, MayLink}
 
--- ---- a plain queue
+-- ---- a sequential queue
 
 -- its tail, and for each thread the link behind one of its turns
 pub record Plain : Type 0 where
@@ -22,14 +22,14 @@ pub record Plain : Type 0 where
 abbrev pub empty_queue : Plain
 empty_queue = record { tail = None; links = λ _. None }
 
--- what a call makes of it
+-- its state after a call
 abbrev pub plain_after : Plain → QueueCall → Plain
 plain_after q (Enter u a) = record q { tail = Some u }
 plain_after q (Link b u) = record q { links = λ t. if t == b.thread then Some (record { before = b.number; behind = u }) else q.links t }
 plain_after q (Next u a) = q
 plain_after q (Leave u a) = record q { tail = tail_without u q.tail }
 
--- a seat with this list may make the call, and this is the queue's answer
+-- a seat with this list may make the call, and the queue answers this
 abbrev pub MayCome : ℕ → Plain → List QueueCall → QueueCall → Type 0
 MayCome n q calls (Enter u a) = IsTurn n u × (a ≡ answer_to_enter q.tail)
 MayCome n q calls (Link b u) = IsTurn n b × IsTurn n u × MayLink calls u b
@@ -43,7 +43,7 @@ pub record Made : Type 0 where
   pub seat : ℕ
   pub call : QueueCall
 
--- the calls of one seat, the first one first
+-- the calls of one seat, in order
 abbrev pub calls_of : ℕ → List Made → List QueueCall
 calls_of id [] = []
 calls_of id (m ∷ before) = if m.seat == id then calls_of id before ++ m.call ∷ [] else calls_of id before
@@ -75,11 +75,11 @@ pub record AreWords (n : ℕ) (words : List ℕ) (q : Plain) : Type 0 where
 abbrev pub first_log : ℕ → SeatLog
 first_log n = record { threads = n; calls = [] }
 
--- a new seat beside one
+-- a new seat beside a given one
 abbrev pub log_beside : SeatLog → SeatLog
 log_beside v = first_log v.threads
 
--- ---- the rule
+-- ---- the invariant
 
 pub record IsOrdered (n : ℕ) (s : State ℕ SeatLog) : Type 0 where
   pub few : n ≤ 64

@@ -1,4 +1,4 @@
--- What each kind of step tells the seat that makes it: on which word it was, what was found there, what is left there, and the seat's list.
+-- What each kind of step says to its seat: the word that it was on, what it found and left there, and the seat's list.
 use Rattle.std.specs.Prelude.{◌≡◌, ℕ, ◌+◌, Option}
 use Rattle.atomic_table.specs.Table.{Me, Step}
 use Rattle.tc_queue.specs.declared.turn.Turn.{Turn}
@@ -9,7 +9,7 @@ use Rattle.tc_queue.specs.Words.{turn_word, link_word}
 use Rattle.tc_queue.specs.Calls.{next_call, with_call, IsTail, IsLink, enter_effect, leave_effect}
 use Rattle.tc_queue.specs.Order.{tail_word, word_of_link}
 
--- a seat's list, and the slots that it has, of which there are none
+-- a seat's list and its slots, of which there are none
 abbrev pub Sitting : Type 0
 Sitting = Me ℕ SeatLog
 

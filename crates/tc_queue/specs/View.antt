@@ -22,13 +22,13 @@ pub record OwnView : Type 0 where
 abbrev pub IsOwnSeatOf : QueueView → OwnView → Type 0
 IsOwnSeatOf q s = (s.table ≡ q.table) × (s.log.threads ≡ q.threads)
 
--- with this seat of the queue a turn may be linked behind one that its `enter` answered
+-- a turn may be linked behind one that `enter` answered with this seat of the queue
 pub record MayLinkBehind (q : QueueView) (s : OwnView) (before u : Turn) : Type 0 where
   pub seat : IsOwnSeatOf q s
   pub turns : IsTurn q.threads before × IsTurn q.threads u
   pub entered : MayLink s.log.calls u before
 
--- the seat after one call more
+-- the seat after one more call
 abbrev pub seat_with : OwnView → QueueCall → OwnView
 seat_with s c = record s { log = with_call s.log c }
 
@@ -42,6 +42,6 @@ pub record IsOpened (threads many : ℕ) (q : QueueView) (made : List OwnView) :
   pub count : length made ≡ many
   pub seats : All (IsNewSeatOf q) made
 
--- a table of this key and number of words is one for so many threads
+-- a table of this key and number of words is for so many threads
 abbrev pub IsTableFor : ℕ → ℕ → ℕ → Type 0
 IsTableFor threads key words = (threads ≡ key) × (words ≡ threads + 1) × (threads ≤ 64)

@@ -1,5 +1,5 @@
-//! The words that the threads share, as a table under a rule, and what each kind of step on it
-//! tells. Word 0 is the tail, and word t + 1 the link of thread t.
+//! The shared words as an atomic table with its invariant, and what each kind of step on it says.
+//! Word 0 is the tail, and word t + 1 the link of thread t.
 
 ghost use Rattle.tc_queue.specs.Steps.{Enters, Links, Looks, Leaves};
 
@@ -9,14 +9,14 @@ use std::alloc::Global;
 use std::collections::LinkedList;
 use std::marker::{Brand, PhantomData};
 
-/// What is known of a seat: for how many threads its queue was made, and the calls that it made.
-/// No value of it is made.
+/// What contracts know of a seat: the number of threads that its queue was made for, and the calls
+/// made with it. No value of this type exists.
 pub struct SeatLog {
     pub threads: u32,
     pub calls: LinkedList<QueueCall>,
 }
 
-/// The rule of the words.
+/// The invariant of the words.
 pub struct Ordered;
 
 impl TableRule<u8, SeatLog, u32> for Ordered {
@@ -31,7 +31,7 @@ pub(crate) type QueueTable = Table<u8, SeatLog, u32, Ordered, Global>;
 
 pub(crate) type QueueTableSeat = Seat<u8, SeatLog>;
 
-/// The turns that a call names, its own and the one before that. Each call picks them.
+/// The turns that a call names, its own and the one before it. Each call chooses them.
 pub trait Named {
     ghost use Rattle.tc_queue.specs.declared.turn.Turn.{Turn};
 
@@ -80,7 +80,7 @@ impl<J: Named> Play<u8, SeatLog> for Leave<J> {
     ghost then = { Leaves J.own };
 }
 
-/// Makes one seat more.
+/// Adds a seat.
 pub(crate) struct AddSeat;
 
 impl Split<SeatLog> for AddSeat {

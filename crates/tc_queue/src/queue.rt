@@ -34,8 +34,8 @@ impl Model for Queue {
     ghost invariant = { λ q. IsTableFor q.threads q.board.shared.key q.board.shared.table_id.words };
 }
 
-/// What a caller makes its calls with. A seat belongs to one queue, and has the list of the calls
-/// that were made with it.
+/// A handle through which a caller makes its calls. A seat belongs to one queue; contracts see the
+/// list of calls that were made with it.
 #[derive(Drop)]
 pub struct QueueSeat {
     place: QueueTableSeat,
@@ -54,7 +54,7 @@ impl Model for QueueSeat {
 }
 
 impl QueueSeat {
-    /// What is so of each seat: a turn that `enter` answered is one of the queue's.
+    /// Invariant of a seat: a turn that `enter` answered is one of the queue's.
     pub(crate) fn knows(&self)
         ensures { KnowsTurns self.now.log }
     {
@@ -63,7 +63,7 @@ impl QueueSeat {
 }
 
 impl Queue {
-    /// A queue for so many threads with nobody in it, and its seats.
+    /// An empty queue for so many threads, and its seats.
     pub fn new(
         alloc: Global,
         threads: u32,
@@ -84,7 +84,7 @@ impl Queue {
         Ok((Queue { board, threads }, made))
     }
 
-    /// For how many threads it was made.
+    /// The number of threads that it was made for.
     pub fn threads(&self) -> u32
         ensures threads { result ≡ self.now.threads }
         ensures few { result ≤ 64 }
@@ -92,8 +92,8 @@ impl Queue {
         self.threads
     }
 
-    /// Puts the turn at the tail. It now stands behind the turn that was there, and is the first
-    /// where none was.
+    /// Puts the turn at the tail. It is then behind the turn that was there, or the first if there
+    /// was none.
     pub fn enter(&self, seat: &mut QueueSeat, turn: Turn) -> Entered
         requires { MayCall self.now (seat_as seat.old) turn }
         ensures call { seat.new ≡ seat_with seat.old (Enter turn result) }
@@ -106,7 +106,7 @@ impl Queue {
         }
     }
 
-    /// Tells the turn before that this one stands behind it.
+    /// Links this turn behind the one before it.
     pub fn link(&self, seat: &mut QueueSeat, before: Turn, own: Turn)
         requires { MayLinkBehind self.now seat.old before own }
         ensures call { seat.new ≡ seat_with seat.old (Link before own) }
@@ -126,7 +126,7 @@ impl Queue {
         }
     }
 
-    /// Empties the tail where it is this turn. Another tail stays.
+    /// Empties the tail if it is this turn. Another tail stays.
     pub fn leave(&self, seat: &mut QueueSeat, own: Turn) -> Leave
         requires { MayCall self.now (seat_as seat.old) own }
         ensures call { seat.new ≡ seat_with seat.old (Leave_call own result) }

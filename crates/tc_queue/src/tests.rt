@@ -54,7 +54,7 @@ const ROUNDS: u64 = 1000;
 
 /// What the threads share beside the queue: the number of the last turn of each thread to which the
 /// lock was handed, how many threads started, and the count. The count is read and written in two
-/// steps, so that it falls short where two threads have the lock at once.
+/// steps, so that it falls short if two threads have the lock at once.
 #[derive(Drop)]
 struct Shared {
     handed: [AtomicU64; 4],

@@ -2,7 +2,7 @@
 
 ghost use Rattle.std.specs.Prelude.{◌≡◌};
 
-/// One wait of a thread for a lock: the thread, and the number that this wait has.
+/// One wait of a thread for a lock: the thread, and the number of this wait.
 #[derive(Clone, Copy, Debug, PartialEq, Eq, Drop)]
 pub struct Turn {
     pub thread: u32,
@@ -18,7 +18,7 @@ impl Turn {
     }
 }
 
-/// What `enter` of a queue found: nobody, or the turn that the entrant now stands behind.
+/// What `enter` of a queue found: nobody, or the turn that the entrant is now behind.
 #[derive(Clone, Copy, Debug, PartialEq, Eq)]
 pub enum Entered {
     First,

@@ -10,42 +10,42 @@ use crate::queue::{Queue, QueueSeat};
 use crate::turn::{Arrival, Departure, Entered, Leave, Turn};
 use std::sync::Wait;
 
-/// Who waits for one lock, and who comes after whom. Each call adds itself, with its answer, to the
+/// Who waits for one lock, and in which order. Each call appends itself, with its answer, to the
 /// list of its seat.
 pub trait Waiters: Sync {
-    /// What a caller makes its calls with.
+    /// A handle through which a caller makes its calls.
     type Seat: Send + Drop;
 
-    /// What `enter` gives and `link` takes: where the entrant stands.
+    /// What `enter` gives and `link` takes: the place of the entrant.
     type Place: Drop;
 
-    /// Which queue it is, and for how many threads it was made.
+    /// Which queue it is, and the number of threads that it was made for.
     ghost queue: { Self → QueueView };
 
     /// Which queue's seat it is, and its calls.
     ghost seen: { Self.Seat → SeatView };
 
-    /// The number that names a place in the lists.
+    /// The number that identifies a place in the lists.
     ghost mark: { Self.Place → ℕ };
 
-    /// Enters with a turn. Where it answers a place, that place is still to be linked.
+    /// Enters with a turn. If it answers a place, the caller still has to link it.
     fn enter(&self, seat: &mut Self::Seat, turn: Turn) -> Arrival<Self::Place>
         requires { MayCall (queue self.now) (seen seat.old) turn }
         ensures call { seen seat.new ≡ with_line (seen seat.old) (Enter turn (answer mark result)) }
         ensures may { IsLinkable mark turn result (seen seat.new).calls };
 
-    /// Tells the one before that this turn stands behind it.
+    /// Links this turn behind the one that the place stands for.
     fn link(&self, seat: &mut Self::Seat, place: Self::Place, own: Turn)
         requires { MayLinkWith (queue self.now) (seen seat.old) own (mark place) }
         ensures call { seen seat.new ≡ with_line (seen seat.old) (Link (mark place) own) };
 
-    /// The turn that comes after this one, where one can be told.
+    /// The turn that comes after this one, if it is known.
     fn next<R: Wait>(&self, rt: &R, seat: &mut Self::Seat, own: Turn) -> Option<Turn>
         requires { MayCall (queue self.now) (seen seat.old) own }
         ensures call { seen seat.new ≡ with_line (seen seat.old) (Next own result) }
         ensures turn { (u : Turn) → result ≡ Some u → IsTurn (queue self.now).threads u };
 
-    /// Leaves, where nobody comes after this turn.
+    /// Leaves, if nobody comes after this turn.
     fn leave<R: Wait>(&self, rt: &R, seat: &mut Self::Seat, own: Turn) -> Departure
         requires { MayCall (queue self.now) (seen seat.old) own }
         ensures call { seen seat.new ≡ with_line (seen seat.old) (Leave_call own result) };

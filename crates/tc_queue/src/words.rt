@@ -1,4 +1,4 @@
-//! How the queue keeps turns in words. In each word 0 stands for nothing.
+//! How turns are packed into words. In each word 0 stands for nothing.
 
 ghost use Rattle.std.specs.Prelude.{◌≡◌, ◌<◌};
 ghost use Rattle.tc_queue.specs.Words.{IsTurn, IsLinked, turn_word, turn_at, link_word, link_at};
@@ -9,7 +9,7 @@ const THREADS: u64 = 64;
 
 const TURNS: u64 = 1 << 30;
 
-/// What the link word of a thread keeps: the number of one of its turns, and the turn behind that
+/// What the link word of a thread has: the number of one of its turns, and the turn behind that
 /// one.
 #[derive(Clone, Copy)]
 pub struct Linked {

@@ -1,4 +1,4 @@
--- A crew of which the first members are made.
+-- A crew while it is made: its first members exist.
 use Rattle.std.specs.Prelude.{◌≡◌, ℕ, List, ◌++◌, length, map, slice_get, Some}
 use Rattle.tc_ready.specs.EndView.{OwnView}
 use Rattle.tc_ready.specs.ReadyView.{ReadyView, member}

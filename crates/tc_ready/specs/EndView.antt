@@ -1,4 +1,4 @@
--- What contracts see of the two ends of a deque, and what each call tells.
+-- What contracts see of the two ends of a deque, and what each call says.
 use Rattle.std.specs.Prelude.{◌≡◌, ◌<◌, ◌+◌, ℕ, max, List, [], ◌∷◌, ◌++◌, length}
 use Rattle.tc_ready.specs.declared.ends.Offer.{Offer}
 use Rattle.tc_ready.specs.Rule.{offer, SawEmpty}
@@ -26,19 +26,19 @@ pub record IsNew (threads room : ℕ) (o : OwnView) : Type 0 where
 abbrev pub Gave : ℕ → OwnView → OwnView → Type 0
 Gave t o p = p ≡ record o { given = o.given ++ offer (length o.given) t ∷ [] }
 
--- the deque was found empty, so all own offers have left
+-- the deque was found empty, so all own offers are gone
 pub record Emptied (o p : OwnView) : Type 0 where
   pub now : p ≡ record o { gone = length o.given }
   pub empty : SawEmpty o.threads o.given o.taken
 
--- one of the own offers was taken, of the thread t, so all before it have left
+-- one of the own offers was taken, of the thread t, so all before it are gone
 pub record Popped (t : ℕ) (o p : OwnView) : Type 0 where
   pub serial : ℕ
   pub own : serial < length o.given
   pub thread : t < o.threads
   pub now : p ≡ record o { gone = max o.gone (serial + 1); taken = o.taken ++ offer serial t ∷ [] }
 
--- another worker's end of a deque, with nothing taken
+-- another worker's end of a deque, from which nothing was taken
 abbrev pub new_end : OwnView → OtherView
 new_end o = record { deque = o.deque; taken = []; threads = o.threads }
 

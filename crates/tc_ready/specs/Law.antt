@@ -1,4 +1,4 @@
--- What the rule of a deque says of the offers, and what it can't.
+-- What the invariant of a deque says of the offers, and what it can't say.
 use Rattle.std.specs.Prelude.{◌≡◌, ℕ, ◌+◌, ◌<◌, ◌≤◌, ◌==◌, Bool, cond, List, map, sum_by}
 use mathlib.Core.Option.{some}
 use lib.ListN.{get_elem?}
@@ -9,11 +9,11 @@ use Rattle.tc_ready.specs.Rule.{KeptDeque, SawEmpty, thread_of}
 abbrev pub bit : Bool → ℕ
 bit b = cond b 1 0
 
--- how often the offer with this number stands in the list
+-- how often the offer with this number is in the list
 abbrev pub times : ℕ → List Offer → ℕ
 times n xs = sum_by (λ x. bit (x.serial == n)) xs
 
--- the deque holds these offers, and with those that were taken they are those that were given, each once
+-- the deque holds these offers, which together with those that were taken are those that were made, each once
 pub record AreOnce (tasks : List ℕ) (views : List Log) (owner : Log) : Type 0 where
   pub rest : List Offer
   pub lies : tasks ≡ map thread_of rest
@@ -23,6 +23,6 @@ pub record AreOnce (tasks : List ℕ) (views : List Log) (owner : Log) : Type 0 
 abbrev pub EachOnce : Type 0
 EachOnce = (tasks : List ℕ) (views : List Log) (owner : Log) → KeptDeque tasks views → get_elem? views 0 ≡ some owner → AreOnce tasks views owner
 
--- `SawEmpty` follows from any state of a deque, since others may take the rest while what the worker knows stays as it is
+-- `SawEmpty` follows from any state of a deque: others may take the rest while what the worker knows stays the same
 abbrev pub Limit : Type 0
 Limit = (tasks : List ℕ) (views : List Log) (v : Log) → 0 < v.threads → KeptDeque tasks views → get_elem? views 0 ≡ some v → SawEmpty v.threads v.given v.taken

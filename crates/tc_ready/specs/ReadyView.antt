@@ -4,8 +4,8 @@ use Rattle.tc_ready.specs.declared.ends.Offer.{Offer}
 use Rattle.tc_ready.specs.Rule.{offer, SawEmpty}
 use Rattle.tc_ready.specs.EndView.{OtherView}
 
--- `crew` has the deque of each worker by number, `own` what this worker took from its own deque, and `stolen` what it took from
--- each other one
+-- `crew` has the deque of each worker by number, `own` what this worker took from its own deque,
+-- and `stolen` what it took from each other deque
 pub record ReadyView : Type 0 where
   pub number : ℕ
   pub threads : ℕ
@@ -29,11 +29,11 @@ taken r j = cond (j == r.number) r.own (slice_index_or r.stolen j [])
 abbrev pub no_offers : ℕ × ℕ → List Offer
 no_offers d = []
 
--- worker i of a crew with these deques, which has given and taken nothing
+-- worker i of a crew with these deques, which has made and taken no offers
 abbrev pub member : ℕ → ℕ → List (ℕ × ℕ) → ℕ → ReadyView
 member threads room crew i = record { number = i; threads = threads; room = room; crew = crew; given = []; gone = 0; own = []; stolen = map no_offers crew }
 
--- a crew of so many workers: each has its number, all have the same deques, and nothing was given or taken
+-- a crew of so many workers: each has its number, all have the same deques, and no offers were made or taken
 pub record AreCrew (workers threads room : ℕ) (rs : List ReadyView) : Type 0 where
   pub crew : List (ℕ × ℕ)
   pub count : (length rs ≡ workers) × (length crew ≡ workers)
@@ -72,7 +72,7 @@ pub record StoleOne (t : ℕ) (r s : ReadyView) : Type 0 where
   pub in_crew : deque < length r.stolen
   pub stole : StoleAt deque t r s
 
--- an own offer of the thread t was taken, so all before it have left
+-- an own offer of the thread t was taken, so all before it are gone
 pub record TookOwn (t : ℕ) (r s : ReadyView) : Type 0 where
   pub serial : ℕ
   pub own : serial < length r.given

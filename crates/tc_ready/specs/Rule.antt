@@ -1,4 +1,4 @@
--- The rule of one worker's deque, and what each step on it tells.
+-- The invariant of one worker's deque, and what each step on it says.
 use Rattle.std.specs.Prelude.{◌≡◌, ◌≢◌, ◌<◌, ◌≤◌, ◌+◌, ℕ, max, List, [], ◌∷◌, ◌++◌, length, map, sum_by}
 use mathlib.Core.Option.{some}
 use lib.ListN.{get_elem?}
@@ -11,7 +11,7 @@ offer n t = record { serial = n; thread = t }
 abbrev pub thread_of : Offer → ℕ
 thread_of x = x.thread
 
--- a worker that has given and taken nothing, in a deque for n threads
+-- a worker that has made and taken no offers, in a deque for n threads
 abbrev pub opened : ℕ → Log
 opened n = record { threads = n; given = []; taken = []; gone = 0 }
 
@@ -23,8 +23,8 @@ fresh = opened 0
 abbrev pub AreOffers : ℕ → List Offer → Type 0
 AreOffers n xs = (i : ℕ) (x : Offer) → get_elem? xs i ≡ some x → (x.serial ≡ i) × (x.thread < n)
 
--- The first view is that of the deque's worker, who alone gives. What it gave is what has left and then what is in the deque,
--- and what has left is what the workers took, each offer as often, however the offers are counted
+-- The first view is that of the deque's owner, who alone makes offers. These are the offers that are gone
+-- and then those in the deque; those that are gone are what the workers took, with the same multiplicities
 pub record KeptDeque (tasks : List ℕ) (views : List Log) : Type 0 where
   pub owner : Log
   pub left : List Offer
@@ -60,12 +60,12 @@ pub record PoppedOne (t : ℕ) (v w : Log) : Type 0 where
   pub thread : t < v.threads
   pub now : w ≡ record v { taken = v.taken ++ offer serial t ∷ []; gone = max v.gone (serial + 1) }
 
--- the worker took one of its own offers, and so all before it have left
+-- the worker took one of its own offers, so all before it are gone
 abbrev pub popped : Log → List ℕ → Log → Type 0
 popped v [] w = w ≡ v
 popped v (t ∷ ts) w = PoppedOne t v w
 
--- there is a state of the deque with no offer in it, in which its worker has given and taken these
+-- there is a state of the deque with no offer in it, in which its owner has made and taken these
 pub record SawEmpty (threads : ℕ) (given taken : List Offer) : Type 0 where
   pub views : List Log
   pub owner : Log

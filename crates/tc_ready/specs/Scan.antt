@@ -4,16 +4,16 @@ use Rattle.tc_hall.specs.declared.board.Knows.{Knows}
 use Rattle.tc_hall.specs.declared.board.PassCall.{PassCall}
 use Rattle.tc_hall.specs.declared.board.PassCall.TheVariants.{Look}
 
--- the looks at the threads from t on that saw these words
+-- the looks at the threads from t on that read these words
 abbrev pub looks_from : ℕ → List ℕ → List PassCall
 looks_from t [] = []
 looks_from t (word ∷ words) = Look t word ∷ looks_from (t + 1) words
 
--- the threads from 0 on were looked at, these words were seen, and nothing else of the pass has changed
+-- the threads from 0 on were looked at, these words were read, and nothing else of the pass has changed
 abbrev pub Looked : List ℕ → Knows → Knows → Type 0
 Looked words v w = w ≡ record v { calls = v.calls ++ looks_from 0 words }
 
--- looks alone were added
+-- only looks were added
 pub record OnlyLooks (v w : Knows) : Type 0 where
   pub words : List ℕ
   pub looked : Looked words v w

@@ -1,4 +1,4 @@
-//! The two ends of one worker's deque: its own, and the one from which another worker takes.
+//! The two ends of one worker's deque: the owner's, and the one from which another worker steals.
 
 ghost use Rattle.std.specs.Prelude.{◌≡◌, ◌<◌, ◌+◌, length, IfOk, MatchBool, MatchOption};
 ghost use Rattle.crossbeam_deque.specs.Handles.{worker_view, worker_port, worker_index, SameWorker};
@@ -11,8 +11,8 @@ use std::alloc::{AllocError, Global};
 use std::collections::LinkedList;
 use std::marker::{Brand, Model, PhantomData};
 
-/// An offer of a thread, with its place among its worker's offers. No value of it is made: a deque
-/// holds the number of the thread alone.
+/// An offer of a thread, with its number among its worker's offers. A ghost type: no value of it
+/// exists, since a deque stores the number of the thread alone.
 #[derive(Clone, Copy)]
 pub struct Offer {
     /// How many offers its worker made before it.
@@ -21,19 +21,19 @@ pub struct Offer {
     pub thread: u32,
 }
 
-/// What a worker knows of one deque. No value of it is made.
+/// What contracts know of one deque. No value of this type exists.
 pub struct Log {
-    /// How many threads there are; 0 in a deque that was not told yet.
+    /// How many threads there are; 0 in a new deque that does not know it yet.
     pub threads: u32,
     /// The offers that it made.
     pub given: LinkedList<Offer>,
     /// The offers that it took.
     pub taken: LinkedList<Offer>,
-    /// How many of its own offers it knows to have left, by those that it took itself.
+    /// How many of its own offers it knows to be gone, by those that it took itself.
     pub gone: u64,
 }
 
-/// The rule of a deque.
+/// The invariant of a deque.
 pub struct Ruled;
 
 impl Protocol<u32, Log> for Ruled {
@@ -75,7 +75,7 @@ impl Outcome<u32, Log> for Pops {
     ghost empty = { found_empty };
 }
 
-/// How many threads there are. Each call picks it.
+/// How many threads there are. Each call chooses it.
 pub trait Counted {
     ghost use Rattle.std.specs.Prelude.{ℕ};
 
@@ -99,7 +99,7 @@ impl<J: Counted> Split<Log> for Opens<J> {
     ghost right = { λ v. opened J.threads };
 }
 
-/// Makes a pass for another worker.
+/// Makes a handle for another worker.
 struct Deals;
 
 impl Split<Log> for Deals {
@@ -114,7 +114,7 @@ type Owner = Worker<u32, Global, Log, Ruled>;
 
 type Thief = Stealer<u32, Global, Log, Ruled>;
 
-/// The end of the worker that the deque belongs to, who alone offers.
+/// The end of the deque's owner, who alone offers.
 #[derive(Drop)]
 pub(crate) struct OwnEnd {
     worker: Owner,
@@ -147,7 +147,7 @@ impl Model for OwnEnd {
         × (0 < o.threads) };
 }
 
-/// A new deque is told how many threads there are, which J picks.
+/// A new deque learns how many threads there are, which J chooses.
 fn open_as<J: Counted>(mut worker: Owner, threads: u32) -> Owner
     requires picked { threads ≡ J.threads }
     requires fresh { (worker_view worker ≡ fresh) × (worker_port worker ≡ 0) × (0 < threads) }
@@ -160,7 +160,7 @@ fn open_as<J: Counted>(mut worker: Owner, threads: u32) -> Owner
 }
 
 impl OwnEnd {
-    /// A new deque, with room for so many offers of threads below `threads`.
+    /// A new deque with room for so many offers of threads below `threads`.
     pub(crate) fn new(alloc: Global, threads: u32, room: u32) -> Result<OwnEnd, AllocError>
         requires { 0 < threads }
         ensures { IfOk result (λ o. IsNew threads room o) }
@@ -192,7 +192,7 @@ impl OwnEnd {
         Ok(OtherEnd { stealer, pass })
     }
 
-    /// Puts an offer behind the others. False exactly where there is no room.
+    /// Puts an offer behind the others. False if and only if there is no room.
     pub(crate) fn offer(&mut self, thread: u32) -> bool
         requires { thread < self.old.threads }
         ensures { MatchBool result
@@ -211,7 +211,7 @@ impl OwnEnd {
         }
     }
 
-    /// The first offer that is left. Where there is none, all own offers have left.
+    /// The first offer that is left. If there is none, all own offers are gone.
     pub(crate) fn pop(&mut self) -> Option<u32>
         ensures { MatchOption result (Emptied self.old self.new)
             (λ t. Popped t self.old self.new) }
@@ -226,7 +226,7 @@ impl OwnEnd {
     }
 }
 
-/// The end of a deque from which another worker takes.
+/// The end of a deque from which another worker steals.
 #[derive(Drop)]
 pub(crate) struct OtherEnd {
     stealer: Thief,
@@ -247,7 +247,7 @@ impl Model for OtherEnd {
 }
 
 impl OtherEnd {
-    /// The first offer that is left. None where there was none, or where another worker was first.
+    /// The first offer that is left. None if there was none, or if another worker was first.
     pub(crate) fn steal(&mut self) -> Option<u32>
         ensures { MatchOption result (self.new ≡ self.old) (λ t. Stole t self.old self.new) }
     {

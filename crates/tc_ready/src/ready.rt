@@ -108,7 +108,7 @@ fn scan(hall: &Hall, pass: &mut Pass, count: u32) -> Option<u32>
 
 impl Ready {
     /// A crew of workers for so many threads, whose deques have room for so many offers each. All
-    /// memory that they ever need is taken here; the deques round the room up to a power of two.
+    /// memory is allocated here; the deques round the room up to a power of two.
     pub fn crew(
         alloc: Global,
         workers: u32,
@@ -137,9 +137,9 @@ impl Ready {
         self.own.threads()
     }
 
-    /// Keeps an offer of the thread behind the others in the worker's deque, to be taken at most
-    /// once. False exactly where the room is used up: then nothing changes, and a scan finds the
-    /// thread. It takes no memory, since the room was made by `crew`.
+    /// Puts an offer of the thread behind the others in the worker's deque, to be taken at most
+    /// once. False if and only if the room is used up: then nothing changes, and a scan finds the
+    /// thread. It allocates nothing, since `crew` made the room.
     pub fn offer(&mut self, t: u32) -> bool
         requires { t < self.old.threads }
         ensures { MatchBool result
@@ -183,10 +183,10 @@ impl Ready {
         None
     }
 
-    /// A thread to try: one that this worker offered, else one that another worker offered, else the
-    /// first that the hall shows as ready. It is a proposal: another worker may claim the thread
-    /// first. None where each thread was looked at and none was ready. A steal that another worker
-    /// wins is not tried again, so the call waits for nobody.
+    /// A thread to try: one that this worker offered, else one that another worker offered, else
+    /// the first that the hall shows as ready. It is a proposal: another worker may claim the
+    /// thread first. None if each thread was looked at and none was ready. A steal that another
+    /// worker wins is not retried, so the call waits for nobody.
     pub fn next(&mut self, hall: &Hall, pass: &mut Pass) -> Option<u32>
         requires own { pass.old.table ≡ hall.now.table }
         requires threads { self.old.threads ≡ threads hall.now.terms }

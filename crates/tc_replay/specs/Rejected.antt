@@ -1,4 +1,4 @@
--- What is wrong with a finished history, and where: a block is wrong for the first reason for which it fails.
+-- What is wrong with a finished history, and where: a block is wrong for the first reason that applies.
 use Rattle.std.specs.Prelude.{◌≡◌, ℕ, ◌+◌, ◌<◌, true, false, not, List, [], ◌∷◌, ◌++◌, length, Some, None, is_some, All}
 use Rattle.tc_isa.specs.Sets.{has}
 use Rattle.tc_isa.specs.declared.options.Options.{Options as Terms}
@@ -13,18 +13,18 @@ use Rattle.tc_replay.specs.Reasons.{reason_number}
 use Rattle.tc_replay.specs.declared.reason.Reason.{Reason}
 use Rattle.tc_replay.specs.declared.reason.Reason.TheVariants as reason
 
--- ---- what a block has to meet, where the history before it leads to m
+-- ---- what a block must satisfy, if the history before it leads to m
 
--- its thread is one, and has not ended
+-- its thread exists, and has not ended
 pub record IsOfThread (image : Shown) (m : State) (b : Block) : Type 0 where
   pub known : b.thread < length image.entries
   pub runs : is_running (m.threads b.thread).status ≡ true
 
--- where its first turn is a lawful LOCK, the lock has no owner
+-- if its first step is a LOCK that does not fault, the lock has no owner
 abbrev pub IsFree : Shown → State → Block → Type 0
 IsFree image m b = (k : ℕ) → next_lock image (m.threads b.thread) ≡ Some k → (m.locks k).owner ≡ None
 
--- its turns, held set, pc and end are those of the thread's block
+-- its steps, held set, pc and end are those of the thread's block
 pub record IsBlockOf (image : Shown) (m : State) (b : Block) : Type 0 where
   pub to : State
   pub runs : Runs image m b.thread b.turns b.end to
@@ -37,7 +37,7 @@ pub record IsOfKind (image : Shown) (limit : ℕ) (h : List Block) (m : State) (
   pub first : is_section b.kind ≡ false → is_first b.kind ≡ not (has_block h b.thread)
   pub obeys : (k : ℕ) → has b.held k ≡ true → Obeys k limit (of_lock (h ++ b ∷ []) k)
 
--- what the block has to meet so that it isn't wrong for this reason
+-- what the block must satisfy for this reason not to apply
 abbrev pub Meets : Shown → Terms → List Block → State → Block → Reason → Type 0
 Meets image terms h m b reason.Text = Unit {0}
 Meets image terms h m b reason.Thread = IsOfThread image m b
@@ -47,12 +47,12 @@ Meets image terms h m b reason.Kind = IsOfKind image terms.limit h m b
 Meets image terms h m b reason.Worker = b.worker < terms.workers
 Meets image terms h m b reason.Incomplete = Unit {0}
 
--- the block is wrong for this reason, and meets each reason with a smaller number
+-- the block is wrong for this reason, and no reason with a smaller number applies
 pub record IsWrong (image : Shown) (terms : Terms) (h : List Block) (m : State) (b : Block) (r : Reason) : Type 0 where
   pub before : (s : Reason) → reason_number s < reason_number r → Meets image terms h m b s
   pub fails : Meets image terms h m b r → ⊥
 
--- the block is wrong for no reason
+-- no reason applies to the block
 pub record IsRight (image : Shown) (terms : Terms) (h : List Block) (m : State) (b : Block) : Type 0 where
   pub thread : IsOfThread image m b
   pub free : IsFree image m b
@@ -62,7 +62,7 @@ pub record IsRight (image : Shown) (terms : Terms) (h : List Block) (m : State) 
 
 -- ---- histories
 
--- each block is right behind those before it
+-- each block is right after those before it
 abbrev pub AreRightAfter : Shown → Terms → List Block → List Block → Type 0
 AreRightAfter image terms seen [] = Unit {0}
 AreRightAfter image terms seen (b ∷ h) = IsRight image terms seen (end_after image terms.fuel seen) b × AreRightAfter image terms (seen ++ b ∷ []) h
@@ -70,7 +70,7 @@ AreRightAfter image terms seen (b ∷ h) = IsRight image terms seen (end_after i
 abbrev pub AreRight : Shown → Terms → List Block → Type 0
 AreRight image terms h = AreRightAfter image terms [] h
 
--- what comes next is wrong for this reason: the next block, or that there is none while a thread goes on
+-- what comes next is wrong for this reason: the next block, or a missing block while a thread can go on
 abbrev pub IsWrongNext : Shown → Terms → List Block → List Block → Reason → Type 0
 IsWrongNext image terms before [] r = (r ≡ reason.Incomplete) × (IsComplete image (end_after image terms.fuel before) → ⊥)
 IsWrongNext image terms before (b ∷ rest) r = IsWrong image terms before (end_after image terms.fuel before) b r
@@ -89,14 +89,14 @@ pub record IsAccepted (image : Shown) (terms : Terms) (h : List Block) : Type 0 
   pub right : AreRight image terms h
   pub complete : IsComplete image (end_after image terms.fuel h)
 
--- the same in other words: it tells a complete run, obeys the batch limit, and has workers below the number
+-- equivalently: it is a trace of a complete run, obeys the batch limit, and its workers exist
 pub record IsCompleteRun (image : Shown) (terms : Terms) (h : List Block) : Type 0 where
   pub tells : Tells image terms.fuel h (end_after image terms.fuel h)
   pub complete : IsComplete image (end_after image terms.fuel h)
   pub obeys : (k : ℕ) → Obeys k terms.limit (of_lock h k)
   pub workers : All (λ (b : Block). b.worker < terms.workers) h
 
--- t is the first thread that goes on in m
+-- t is the first thread that can go on in m
 pub record IsFirstOn (image : Shown) (m : State) (t : ℕ) : Type 0 where
   pub known : t < length image.entries
   pub runs : is_running (m.threads t).status ≡ true

@@ -16,15 +16,15 @@ use Rattle.tc_law.specs.History.{Follows}
 use Rattle.tc_replay.specs.Rejected.{IsOfThread, IsFree, IsRight, IsWrong}
 use Rattle.tc_replay.specs.declared.reason.Reason.{Reason}
 
--- the two have the same turns, locks, pc and end
+-- the two have the same steps, locks, pc and end
 pub record HaveSameTurns (a b : Block) : Type 0 where
   pub turns : a.turns ≡ b.turns
   pub held : a.held ≡ b.held
   pub pc : a.pc ≡ b.pc
   pub end : a.end ≡ b.end
 
--- in which way a lock is granted to the thread of a recorded block: as it is recorded, where it is recorded as a section,
--- and else as one that nobody handed on
+-- how a lock is granted to the thread of a recorded block: with the recorded kind if that is a
+-- section's, else as Taken
 abbrev pub grant_kind : Block → Kind
 grant_kind b = if is_section b.kind then b.kind else Taken
 
@@ -32,7 +32,7 @@ grant_kind b = if is_section b.kind then b.kind else Taken
 abbrev pub IsGrantedFor : Block → PackageView → Type 0
 IsGrantedFor b p = (g : Grant) → p.granted ≡ Some g → g.kind ≡ grant_kind b
 
--- the package of the block's thread is as the history leaves it, and may run: nothing is wrong up to the block's turns
+-- the package of the block's thread agrees with the history, and may run: nothing is wrong before the block's steps
 pub record IsPrepared (image : Shown) (terms : Terms) (h : List Block) (p : PackageView) (b : Block) : Type 0 where
   pub tells : Tells image terms.fuel h (end_after image terms.fuel h)
   pub follows : Follows image terms.fuel terms.limit h (end_after image terms.fuel h) p
@@ -53,7 +53,7 @@ pub record IsRecorded (image : Shown) (old new : PackageView) (b : Block) : Type
   pub sealed : new ≡ with_seal b.stamp b.worker pending
   pub is : sealed_block b.stamp b.worker ran.block ≡ b
 
--- what is found of the block: nothing is wrong with it, and the package has it; or it is wrong for this reason
+-- the verdict on the block: nothing is wrong with it, and the package has it; or it is wrong for this reason
 abbrev pub IsJudged : Shown → Terms → List Block → PackageView → PackageView → Block → Option Reason → Type 0
 IsJudged image terms h old new b None = IsRight image terms h (end_after image terms.fuel h) b × IsRecorded image old new b
 IsJudged image terms h old new b (Some r) = IsWrong image terms h (end_after image terms.fuel h) b r

@@ -33,20 +33,20 @@ use tc_segment::state::LockState;
 use tc_turn::memory::Memory;
 use tc_turn::status::Status;
 
-/// A checker of one history, which takes its blocks one by one and runs each of them. Once a block
-/// was wrong, each later one is answered with the same reason. Clauses see the blocks that were
-/// taken as a list.
+/// A checker of one history, which takes its blocks one by one and runs each of them. After a wrong
+/// block it answers each later one with the same reason. Contracts see the blocks that were taken
+/// as a list.
 #[derive(Drop)]
 pub struct Checker {
     of: Snapshot<Image>,
     terms: Terms,
-    // The blocks that were taken, which only clauses read.
+    // The blocks that were taken, which only contracts read.
     taken: Noted<Block>,
     // Those of all threads, in order of number.
     packages: Vec<Package>,
     // The locks that no thread holds.
     home: LockSet,
-    // Room for the lock states, once all of them are home.
+    // Capacity for the lock states, once no package has any.
     states: Vec<LockState>,
     failed: Option<Reason>,
 }
@@ -72,8 +72,8 @@ impl Model for Checker {
         × (length a.of.value.guards ≤ vec_capacity a.states) };
 }
 
-/// The packages of all threads, at their start. They share the code, which is decoded here, and the
-/// memory with which they begin.
+/// The packages of all threads at their start. They share the code, which is decoded here, and
+/// their initial memory.
 fn packages_at_start(alloc: Global, image: &Image, terms: Terms) -> Result<Vec<Package>, AllocError>
     ensures fresh { IfOk result (λ v. AreFreshPackages image.now terms.fuel v.items) }
     ensures limits { OnOk result (IsLimited image.now terms.fuel) }
@@ -89,7 +89,7 @@ fn packages_at_start(alloc: Global, image: &Image, terms: Terms) -> Result<Vec<P
     Ok(packages)
 }
 
-/// The locks of a guest at their start. They are not strict: a history may tell that a section was
+/// The locks of a guest at their start. They are not strict: a history may say that a section was
 /// passed on to the thread that released it.
 fn locks_at_start(alloc: Global, image: &Image, terms: Terms) -> Result<LockSet, AllocError>
     ensures { IfOk result (λ s. (k : ℕ) → lock_in s k ≡ (if nat_lt k (length image.now.guards)
@@ -113,8 +113,8 @@ fn goes_on(package: &Package) -> bool
     }
 }
 
-/// Takes the next block, and says what is wrong with it, if anything is: the packages and locks are
-/// of no use then.
+/// Takes the next block, and says what is wrong with it, if anything is; then the packages and
+/// locks are useless.
 fn judge(
     image: &Image,
     terms: Terms,
@@ -147,15 +147,15 @@ fn judge(
 }
 
 impl Checker {
-    /// What each checker keeps: its packages and its locks have taken its blocks, unless it has
-    /// failed. A law: it does nothing when it is called.
+    /// The invariant of each checker: its packages and its locks have taken its blocks, unless it
+    /// has failed. A lemma: the function has no effect when it is called.
     pub fn keeps(&self)
         ensures { HasWhatItTook self.now }
     {
         let _ = &self.failed;
     }
 
-    /// A checker that has taken no block.
+    /// A checker that has taken no block yet.
     pub fn new(alloc: Global, image: &Image, terms: Terms) -> Result<Checker, AllocError>
         ensures taken { IfOk result (λ c. HasTaken c []) }
         ensures image { IfOk result (λ c. c.image ≡ image.now) }
@@ -172,10 +172,10 @@ impl Checker {
         })
     }
 
-    /// Takes the next block: it is run, and compared with what ran. It is taken exactly where nothing
-    /// is wrong with it behind those that were taken; else the checker has failed, and answers each
-    /// later block as it does this one. Want of memory comes before the block is run, and the same
-    /// block may be given again.
+    /// Takes the next block: runs it and compares it with what ran. It is taken if and only if
+    /// nothing is wrong with it after those that were taken. Otherwise the checker has failed, and
+    /// answers each later block as this one. Running out of memory comes before the block is run;
+    /// the same block may then be given again.
     pub fn take(&mut self, image: &Image, block: &Block) -> Result<(), Take>
         requires image { self.old.image ≡ image.now }
         requires stamp { self.old.failed ≡ None → block.now.stamp ≡ length self.old.taken }
@@ -202,7 +202,7 @@ impl Checker {
         }
     }
 
-    /// The least thread that has not ended, None exactly where each has.
+    /// The least thread that has not ended; None if and only if each has.
     pub fn unfinished(&self) -> Option<u32>
         requires { self.now.failed ≡ None }
         ensures some { (t : ℕ) → result ≡ Some t → IsFirstOn self.now.image
@@ -217,8 +217,8 @@ impl Checker {
         None
     }
 
-    /// All packages and all lock states, in order of number, as the blocks that were taken leave
-    /// them. It takes no memory.
+    /// All packages and all lock states, in order of number, after the blocks that were taken. It
+    /// allocates nothing.
     pub fn parts(self) -> (Vec<Package>, Vec<LockState>)
         requires failed { self.failed ≡ None }
         requires ended { HasEnded self }

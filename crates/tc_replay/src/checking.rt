@@ -14,16 +14,16 @@ use std::alloc::{AllocError, Global};
 use tc_elf::image::Image;
 use tc_journal::block::Block;
 
-/// What a history is found to be.
+/// The verdict on a history.
 #[derive(Drop)]
 pub enum Verdict {
     /// Nothing is wrong with it. The checker has taken all of its blocks.
     Accepted(Checker),
-    /// This is the first thing that is wrong with it.
+    /// The first thing that is wrong with it.
     Rejected(Rejected),
 }
 
-/// Checks a history, and answers the checker that took it where nothing is wrong with it.
+/// Checks a history, and returns the checker that took it if nothing is wrong with it.
 pub fn checked(
     alloc: Global,
     image: &Image,
@@ -62,7 +62,7 @@ pub fn checked(
     Ok(Verdict::Accepted(checker))
 }
 
-/// Checks a history: the first thing that is wrong with it, None exactly where nothing is.
+/// Checks a history: the first thing that is wrong with it; None if and only if nothing is.
 pub fn check(
     alloc: Global,
     image: &Image,

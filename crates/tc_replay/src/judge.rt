@@ -1,4 +1,4 @@
-//! A recorded block is run, and compared with what ran.
+//! Runs a recorded block, and compares it with what ran.
 
 ghost use Rattle.std.specs.Prelude.{◌≡◌, ℕ, ◌<◌, List, MatchBool, IfSome, OnOk, Some, None, true, false, OnErr, Ok};
 ghost use Rattle.tc_segment.specs.View.{LockView};
@@ -21,7 +21,7 @@ use tc_elf::image::Image;
 use tc_isa::held::Held;
 use tc_journal::block::{Block, Kind};
 
-/// Whether two blocks have the same turns, locks, `pc` and end.
+/// Whether two blocks have the same steps, locks, `pc` and end.
 fn have_same_turns(ran: &Block, block: &Block) -> bool
     ensures { MatchBool result (HaveSameTurns ran.now block.now)
         (HaveSameTurns ran.now block.now → ⊥) }
@@ -36,8 +36,8 @@ fn is_kind(a: Kind, b: Kind) -> bool
     a == b
 }
 
-/// In which way a lock is granted to the thread of a recorded block: as it is recorded, where it is
-/// recorded as a section. Else the block is wrong, and is told so once it ran.
+/// How a lock is granted to the thread of a recorded block: with the recorded kind, if that is a
+/// section's. Otherwise the block is wrong, which is found after it ran.
 fn kind_for(block: &Block) -> Kind
     ensures is { result ≡ grant_kind block.now }
     ensures section { is_section result ≡ true }
@@ -49,7 +49,7 @@ fn kind_for(block: &Block) -> Kind
     }
 }
 
-/// Makes room for a block of the package, and for its entry in the lock at home that it wants.
+/// Makes room for a block of the package, and for its entry in the lock that it wants.
 fn make_room(home: &mut LockSet, package: &mut Package, want: Option<u32>) -> Result<(), AllocError>
     requires { IfSome want (λ k. k < 32) }
     ensures same { IsOnlyRoomier home.old «package».old home.new «package».new }
@@ -64,7 +64,7 @@ fn make_room(home: &mut LockSet, package: &mut Package, want: Option<u32>) -> Re
     }
 }
 
-/// Grants a lock that is at home to the package of a recorded block, and answers whether it is.
+/// Grants a lock that no thread holds to the package of a recorded block, and says whether it was one.
 fn grant_for(home: &mut LockSet, package: &mut Package, block: &Block, lock: u32) -> bool
     requires small { lock < 32 }
     requires may { (l : LockView) → lock_in home.old lock ≡ Some l → MayGrant «package».old l }
@@ -80,7 +80,7 @@ fn grant_for(home: &mut LockSet, package: &mut Package, block: &Block, lock: u32
     true
 }
 
-/// Grants the lock that a package wants, where it wants one, and answers whether it has what it
+/// Grants the lock that a package wants, if it wants one, and answers whether it has what it
 /// wants.
 fn grant_wanted(home: &mut LockSet, package: &mut Package, block: &Block, want: Option<u32>) -> bool
     requires small { IfSome want (λ k. k < 32) }
@@ -126,7 +126,7 @@ fn run_recorded(image: &Image, terms: Terms, package: &mut Package, block: &Bloc
     None
 }
 
-/// Takes a released lock out of a package and brings it home.
+/// Takes a released lock out of a package and stores it with those that no thread holds.
 fn bring_home(home: &mut LockSet, package: &mut Package, lock: u32)
     requires { HasReleased lock «package».old }
     ensures { WentHome lock home.old «package».old home.new «package».new }
@@ -135,7 +135,7 @@ fn bring_home(home: &mut LockSet, package: &mut Package, lock: u32)
     home.put_in(state);
 }
 
-/// Brings the locks home that a block of these locks released.
+/// Takes the locks that a block released out of its package.
 fn bring_released(home: &mut LockSet, package: &mut Package, block: &Block)
     requires { HasRun block.now «package».old }
     ensures { AllWentHome home.old «package».old home.new «package».new }
@@ -150,7 +150,7 @@ fn bring_released(home: &mut LockSet, package: &mut Package, block: &Block)
 }
 
 /// Takes the next block, of a package whose thread runs: the package runs it, and says what is wrong
-/// with it, if anything is; it is of no use then. Where memory is refused, nothing but rooms changed.
+/// with it, if anything is; then it is useless. If memory runs out, only capacities have changed.
 pub(crate) fn take_on(
     image: &Image,
     terms: Terms,

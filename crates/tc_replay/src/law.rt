@@ -1,4 +1,4 @@
-//! What a history that is not rejected is.
+//! Which histories are accepted.
 
 ghost use Rattle.std.specs.Prelude.{◌≡◌, ℕ, List};
 ghost use Rattle.tc_isa.specs.declared.options.Options.{Options as AnyTerms};
@@ -7,9 +7,9 @@ ghost use Rattle.tc_journal.specs.declared.block.Block.{Block};
 ghost use Rattle.tc_replay.specs.Rejected.{IsAccepted, IsCompleteRun, IsRejected};
 ghost use Rattle.tc_replay.specs.declared.reason.Reason.{Reason as AnyReason};
 
-/// A history is accepted exactly where it tells a complete run, obeys the batch limit and has
-/// workers below the number. It is rejected at one line for one reason at most, and not where it is
-/// accepted. A law: it does nothing when it is called.
+/// A history is accepted if and only if it is a trace of a complete run, obeys the batch limit and
+/// its workers exist. It is rejected at one line for one reason at most, and never if it is
+/// accepted. A lemma: the function has no effect when it is called.
 pub fn rejecting()
     ensures run { (image : Shown) (terms : AnyTerms) (h : List Block)
         → IsAccepted image terms h → IsCompleteRun image terms h }

@@ -6,16 +6,16 @@ ghost use Rattle.tc_replay.specs.declared.reason.Take.TheVariants.{OutOfMemory};
 
 use std::alloc::AllocError;
 
-/// Why a history is rejected. Of several reasons the first of this list is told.
+/// Why a history is rejected. Of several reasons the first in this list is reported.
 #[derive(Clone, Copy, Debug, PartialEq, Eq)]
 pub enum Reason {
     /// The text is not that of a history.
     Text,
-    /// The thread is no thread, or has ended.
+    /// There is no such thread, or it has ended.
     Thread,
-    /// The first turn takes a lock that has an owner.
+    /// The first step takes a lock that has an owner.
     Owner,
-    /// The turns, the held set, the `pc` or the end are not those of the thread's block.
+    /// The steps, the held set, the `pc` or the end are not those of the thread's block.
     Block,
     /// The kind is not that of the block, or the batch rule does not allow it.
     Kind,
@@ -62,8 +62,8 @@ impl Reason {
 /// The first place at which something is wrong with a history.
 #[derive(Clone, Copy, Debug, PartialEq, Eq)]
 pub struct Rejected {
-    /// The number of the block's line, from 1; of a history that ends too early, the number of the
-    /// line that it lacks.
+    /// The number of the block's line, from 1; if the history ends too early, the number of the
+    /// missing line.
     pub line: u64,
     pub reason: Reason,
 }

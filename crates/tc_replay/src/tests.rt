@@ -1,4 +1,4 @@
-//! Histories that are accepted, and what is told of those that are not.
+//! Histories that are accepted, and the reasons for which others are rejected.
 
 ghost use Rattle.std.specs.Prelude.{◌≡◌, Some};
 
@@ -111,7 +111,7 @@ const HOLDS_NOTHING: &str =
 const ADOPTED_ELSEWHERE: &str =
     "block 4 thread 1 turns 7 held 0 kind adopted worker 1 pc 0010003c end unlocked 0\n";
 
-/// The lock is granted where the worker that released it has to adopt.
+/// The lock is granted although the worker that released it has to adopt.
 const GRANTED: &str =
     "block 4 thread 1 turns 7 held 0 kind granted worker 0 pc 0010003c end unlocked 0\n";
 

@@ -1,12 +1,12 @@
 //! The report of a run, and how it is written.
 //!
-//! The layer above has a history, and the packages and lock states that a run left. It is promised that
-//! the text made of them is the report, or the summary, of the machine's run with this history, and that
-//! writing a report writes just this text, or a front of it where a write fails; all memory is had before
-//! the first byte.
+//! The layer above has a history, and the packages and lock states that a run left. Promises: the
+//! text made of them is the report, or the summary, of the machine's run with this history. Writing
+//! a report writes exactly this text, or a prefix of it if a write fails. All memory is allocated
+//! before the first byte.
 //!
 //! - `report`: the text of a report. `summary`: the text of a summary.
-//! - `write`: a report is written by several threads. `ring`: where they make the lines of the history,
+//! - `write`: several threads write a report. `ring`: where they make the lines of the history,
 //!   while one writes them in order. `piece`: the lines of some blocks. `written`: how writing went.
 #![tactic(auto)]
 

@@ -1,4 +1,4 @@
-//! The lines of some blocks of a history, and the room that they stand in.
+//! The lines of some blocks of a history, and their memory.
 
 ghost use Rattle.std.specs.Prelude.{◌≡◌, ◌*◌, ◌≤◌, IfOk, length, min, string_bytes, string_capacity};
 ghost use Rattle.std.specs.Fork.{slice_chunk};
@@ -11,6 +11,7 @@ use tc_journal::block::Block;
 use tc_journal::line::{LINE, push_lent};
 
 /// How many blocks a piece has lines of at most.
+/// Four workers took as long with pieces of 2,048 to 8,192 blocks.
 pub(crate) const BLOCKS: usize = 4_096;
 
 /// The lines of each piece of a history, by the piece's number, and for the lines of how many blocks a

@@ -267,7 +267,7 @@ fn report_room(history: &[&Block], tail: &str) -> usize {
         .saturating_add(tail.len())
 }
 
-/// What a report has behind its history: the lines of the threads and the locks, and the last line.
+/// What follows the history in a report: the lines of the threads and the locks, and the last line.
 pub fn tail_of(
     alloc: Global,
     image: &Image,
@@ -295,8 +295,8 @@ fn push_head(out: &mut String, image: &Image, options: Options) -> Result<(), Al
     push_run(out, options)
 }
 
-/// The report that has this text behind its history. The memory for all of it is taken at once,
-/// before any of it is written, so that no second copy is made as it grows.
+/// The report with this text after its history. The memory for all of it is allocated at once,
+/// before any of it is written, so that growing makes no second copy.
 pub fn report_with(
     alloc: Global,
     image: &Image,
@@ -314,11 +314,11 @@ pub fn report_with(
     Ok(out.into_bytes())
 }
 
-/// Writes the report that has this text behind its history, until a write fails. All memory for it is
-/// taken before any of it is written, and what the lines of the history take does not grow with the
-/// history. The report of a history of one piece is one text. A longer one is written in parts, each as
-/// a text of its own: the lines before the history, each piece, and the lines behind it. It may wait,
-/// for the threads that make the lines; as many as there were workers work at it.
+/// Writes the report with this text after its history, until a write fails. All memory is allocated
+/// before any of it is written, and that for the lines does not grow with the history. A history of
+/// one piece makes one text. A longer one is written in parts, each as a text of its own: the lines
+/// before the history, each piece, and the lines after it. As many threads as there were workers
+/// make the lines; the call may wait for them.
 pub fn write_report<R: Threads + Wait + Sync, K: Sink>(
     rt: &R,
     alloc: Global,
@@ -346,7 +346,7 @@ pub fn write_report<R: Threads + Wait + Sync, K: Sink>(
     write_around::<R, K, Brand>(rt, alloc, sink, head, history, tail, workers)
 }
 
-/// Blocks, where they stand.
+/// Blocks, borrowed.
 pub fn lent(alloc: Global, history: &[Block]) -> Result<Vec<&Block>, AllocError>
     ensures { IfOk result (λ blocks. map (λ b. b.now) blocks.items ≡ history.now) }
 {

@@ -86,10 +86,10 @@ fn push_guards(out: &mut String, locks: &[LockState]) -> Result<(), AllocError>
     Ok(())
 }
 
-/// The summary of a run of the generator's guest with so many rounds to the end of every thread: how
-/// the threads ended and what the locks guard, in the state in which the history ends, and how many
-/// blocks and turns led there. The packages and lock states are those that the run left, of all
-/// threads and locks in order of number. Nothing of the workers and the batch limit is told.
+/// The summary of a run of the generator's guest with so many rounds to the end of every thread:
+/// how the threads ended, what the locks guard in the last state, and how many blocks and steps led
+/// there. The packages and lock states are those that the run left, of all threads and locks in
+/// order of number. It says nothing of the workers and the batch limit.
 pub fn summary(
     alloc: Global,
     rounds: u32,

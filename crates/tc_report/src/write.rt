@@ -1,5 +1,5 @@
-//! How a report is written: what stands before its history, the lines of the history, which are made
-//! while they are written, and what stands behind them.
+//! How a report is written: what comes before its history, the lines of the history, which are made
+//! while they are written, and what follows them.
 
 ghost use Rattle.std.specs.Prelude.{◌≡◌, ◌++◌, IfOk, OnErr};
 ghost use Rattle.tc_report.specs.Pieces.{AreLines, lines_of};

@@ -5,7 +5,7 @@ ghost use Rattle.tc_report.specs.Written.{Wrote};
 
 use tc_io::{Failed, Sink, write_all};
 
-/// How writing a text went: it was written whole, or a front of it before the sink failed.
+/// How writing a text went: it was written whole, or a prefix of it before the sink failed.
 pub type Written = Result<(), Failed>;
 
 /// Writes a text, until a write fails. Each write is given all of it that is not written yet.

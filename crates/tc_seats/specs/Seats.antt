@@ -1,4 +1,4 @@
--- What is known of a seat: the calls that were made with it.
+-- What contracts know of a seat: the calls that were made with it.
 use Rattle.std.specs.Prelude.{◌≡◌, ℕ, [], ◌∷◌, ◌++◌, None}
 use Rattle.atomic_table.specs.Seated.{TableId}
 use Rattle.atomic_table.specs.Table.{Me, State, Step}
@@ -17,15 +17,15 @@ log_beside v = no_calls v.threads
 abbrev pub with_call : CallLog → QueueCall → CallLog
 with_call v c = record v { calls = v.calls ++ c ∷ [] }
 
--- no rule
+-- no invariant
 abbrev pub Anything : ℕ → State ℕ CallLog → Type 0
 Anything threads s = Unit {0}
 
--- a step that adds a call to the list of the seat that makes it
+-- a step that appends a call to the list of its seat
 abbrev pub Adds : QueueCall → Step ℕ → Me ℕ CallLog → ℕ → Me ℕ CallLog → Type 0
 Adds c step m word m' = m' ≡ (with_call m.0 c, m.1)
 
--- what stands where no call is picked
+-- what a step has that names no call
 abbrev pub some_call : QueueCall
 some_call = Next no_turn None
 

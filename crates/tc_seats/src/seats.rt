@@ -11,14 +11,14 @@ use std::collections::LinkedList;
 use std::marker::{Brand, Model, PhantomData};
 use tc_queue::QueueCall;
 
-/// What is known of a seat: for how many threads its queue was made, and the calls that were made
-/// with it. No value of it is made.
+/// What contracts know of a seat: the number of threads that its queue was made for, and the calls
+/// made with it. No value of this type exists.
 pub struct CallLog {
     pub threads: u32,
     pub calls: LinkedList<QueueCall>,
 }
 
-/// The rule of the seats, which is none.
+/// The invariant of the seats, which always holds.
 pub struct Unruled;
 
 impl TableRule<u8, CallLog, u32> for Unruled {
@@ -31,7 +31,7 @@ impl TableRule<u8, CallLog, u32> for Unruled {
 
 type SeatTable = Table<u8, CallLog, u32, Unruled, Global>;
 
-/// What a caller makes its calls with. A seat belongs to one queue.
+/// A handle through which a caller makes its calls. A seat belongs to one queue.
 #[derive(Drop)]
 pub struct NotedSeat {
     place: Seat<u8, CallLog>,
@@ -46,7 +46,7 @@ impl Model for NotedSeat {
     ghost view = { λ s. own_view s.place.table_id s.place.id s.place.me.0 };
 }
 
-/// The call that is noted. Each note picks it.
+/// The call that is noted. Each note chooses it.
 pub trait Noted {
     ghost call: { QueueCall };
 }
@@ -65,7 +65,7 @@ impl<J: Noted> Play<u8, CallLog> for Note<J> {
     ghost then = { Adds J.call };
 }
 
-/// Makes one seat more.
+/// Adds a seat.
 struct AddSeat;
 
 impl Split<CallLog> for AddSeat {
@@ -76,7 +76,7 @@ impl Split<CallLog> for AddSeat {
     ghost right = { log_beside };
 }
 
-/// What tells which queue the seats belong to, and for how many threads that is.
+/// The queue that the seats belong to, and the number of its threads.
 #[derive(Drop)]
 pub struct Seats {
     table: SeatTable,
@@ -132,7 +132,7 @@ impl Seats {
         self.table.shared.load::<Note<J>>(&mut seat.place, 0);
     }
 
-    /// Adds the call to the seat's list.
+    /// Appends the call to the seat's list.
     pub fn note(&self, seat: &mut NotedSeat, call: QueueCall)
         requires { IsOwnSeatOf self.now seat.old }
         ensures { seat.new ≡ seat_with seat.old call }

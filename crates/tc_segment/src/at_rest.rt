@@ -1,4 +1,4 @@
-//! The laws of lock states at rest.
+//! The lemmas about lock states at rest.
 
 ghost use Rattle.std.specs.Prelude.{◌≡◌, ◌↔◌, ℕ, true};
 ghost use Rattle.tc_elf.specs.Shown.{Shown};
@@ -6,8 +6,8 @@ ghost use Rattle.tc_journal.specs.Batch.{allows_of};
 ghost use Rattle.tc_journal.specs.declared.block.Kind.TheVariants.{Taken};
 ghost use Rattle.tc_segment.specs.View.{LockView, IsAtRest, blocks_of, fresh_state, kept};
 
-/// A lock is at rest at the start, and where it is at rest each worker's thread may take it. Its
-/// rooms do not count. A law: it does nothing when it is called.
+/// A lock is at rest at the start. While it is at rest, the thread of any worker may take it. Spare
+/// capacity does not matter. A lemma: the function has no effect when it is called.
 pub fn resting()
     ensures fresh { (image : Shown) (k limit : ℕ) → IsAtRest image k (fresh_state image k limit) }
     ensures taken { (image : Shown) (k : ℕ) (l : LockView) (worker : ℕ)

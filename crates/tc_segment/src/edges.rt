@@ -1,4 +1,4 @@
-//! The registers before and behind blocks, one packed behind the other.
+//! The registers before and after blocks, packed one after another.
 
 ghost use Rattle.std.specs.Prelude.{◌≡◌, ◌≤◌};
 ghost use Rattle.tc_segment.specs.Packed.{IsPlace, StandsBeside, HasReserved, regs_at};

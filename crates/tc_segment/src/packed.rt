@@ -12,7 +12,7 @@ use tc_isa::regs::Regs;
 /// The most words that registers take.
 pub(crate) const MOST_WORDS: usize = 33;
 
-/// Registers, packed. A value is made once and used again, since it takes the same memory for any
+/// Registers, packed. A value is made once and used again, since it takes the same memory for all
 /// registers.
 #[derive(Drop)]
 pub struct Packed {
@@ -38,7 +38,7 @@ impl Packed {
         Packed { words, end }
     }
 
-    /// Packs these registers in place of those that it had. Takes no memory.
+    /// Packs these registers in place of the old ones. Allocates nothing.
     pub fn set(&mut self, regs: &Regs)
         ensures { self.new ≡ regs.now }
     {

@@ -1,4 +1,4 @@
-//! How entries are kept: their registers stand in one place, and their foreign words in another.
+//! How entries are stored: their registers in one list, and their foreign words in another.
 
 ghost use Rattle.std.specs.Prelude.{◌≡◌, ◌≤◌, length, map, take};
 ghost use Rattle.tc_journal.specs.Batch.{last_of};

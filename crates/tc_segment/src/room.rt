@@ -1,8 +1,8 @@
-//! Room for more entries. Most blocks find that there is room, so growth stands apart. What is not
-//! written yet takes no memory of the host, and a large vector grows without a copy. The first room is
-//! small, since a piece of memory of its own costs more than all entries of a small run. Each room is
-//! such that a piece of memory is a power of two of bytes, with the two words of 8 bytes that an
-//! allocator keeps before it: then large pieces stand on whole large pages of the host.
+//! Capacity for more entries. Most blocks find that there is room, so growth is code of its own.
+//! Pages that are not written yet take no memory of the host, and a large vector grows without a
+//! copy. The first capacity is small, since a separate allocation costs more than all entries of a
+//! small run. Each allocation is a power of two of bytes, including the two 8-byte words that an
+//! allocator keeps before it, so that large ones fill whole large pages of the host.
 
 ghost use Rattle.std.specs.Prelude.{◌<◌, ◌^◌, vec_len};
 ghost use Rattle.tc_segment.specs.Kept.{HasMadeRoom, HasWordRoom};

@@ -47,8 +47,8 @@ struct Contents {
 
 /// A lock with the bytes of its guard, and the journal of the blocks that ran with it.
 ///
-/// While a block runs, its entry is open: the block's turns then change the lock and note the
-/// words that came from elsewhere. The entry is closed with the block, and sealed once the block
+/// While a block runs, its entry is open: the steps of the block change the lock and note the
+/// values that came from elsewhere. The entry is closed with the block, and sealed once the block
 /// has its stamp and worker.
 #[derive(Drop)]
 pub struct LockState {
@@ -68,8 +68,8 @@ impl Model for LockState {
 }
 
 impl LockState {
-    /// The lock of this number as it is at the start, with a journal of no entries. The journal is
-    /// strict: a section that is passed on goes to another thread than that of the section before.
+    /// The lock of this number at the start, with an empty journal. The journal is strict: a
+    /// section that is passed on goes to another thread than that of the section before.
     pub fn new(alloc: Global, image: &Image, lock: u32, limit: u32) -> Result<LockState, AllocError>
         requires { CanStart image.now lock limit }
         ensures { IfOk result (λ l. l ≡ fresh_state image.now lock limit) }
@@ -77,9 +77,9 @@ impl LockState {
         LockState::at_start(alloc, image, lock, limit, true)
     }
 
-    /// Like `new`, with a journal that is not strict: the batch rule lets a thread be passed a lock
-    /// that it released itself. No run makes such a section, but a history may tell one, so this is
-    /// for those who check histories.
+    /// Like `new`, but the journal is not strict: the batch rule lets a thread be passed a lock
+    /// that it released itself. No run makes such a section, but a history may contain one, so
+    /// checkers of histories use this.
     pub fn lenient(
         alloc: Global,
         image: &Image,
@@ -129,7 +129,7 @@ impl LockState {
         })
     }
 
-    /// What each lock state keeps, wherever it is. A law: it does nothing when it is called.
+    /// The invariants of each lock state, wherever it is. A lemma: the function has no effect.
     pub fn keeps(&self)
         ensures { IsSoundLock self.now }
     {
@@ -144,21 +144,21 @@ impl LockState {
         self.contents.number
     }
 
-    /// The batch limit: how many Adopted sections may stand in a row.
+    /// The batch limit: the greatest number of consecutive Adopted sections.
     pub fn limit(&self) -> u32
         ensures { result ≡ self.now.journal.limit }
     {
         self.contents.limit
     }
 
-    /// Whether a thread ended while it held the lock.
+    /// Whether the lock is broken (poisoned): a thread ended while it held the lock.
     pub fn broken(&self) -> bool
         ensures { result ≡ self.now.broken }
     {
         self.contents.broken
     }
 
-    /// The streak: how many Adopted sections stand in a row at the end.
+    /// The streak: the number of consecutive Adopted sections at the end.
     pub fn run(&self) -> u32
         ensures { result ≡ run_of self.now.number (blocks_of self.now) }
     {
@@ -179,14 +179,14 @@ impl LockState {
         &self.contents.bytes
     }
 
-    /// The number of entries, with one that is closed and not sealed yet.
+    /// The number of entries, including one that is closed and not sealed yet.
     pub fn entries(&self) -> usize
         ensures { result ≡ length (entries self.now.journal) }
     {
         self.contents.records.len()
     }
 
-    /// The entry at a place, from 0, in the order in which they were closed.
+    /// The entry with an index, from 0, in the order in which they were closed.
     pub fn entry(&self, i: usize) -> Entry<'_>
         requires { i < length (entries self.now.journal) }
         ensures { slice_get (entries self.now.journal) i ≡ Some (entry_lent result) }
@@ -195,8 +195,8 @@ impl LockState {
         contents.records[i].entry(&contents.edges, &contents.words)
     }
 
-    /// Whether the batch rule lets this be the kind, and the worker of the first block, of the
-    /// next section.
+    /// Whether the batch rule allows the next section to have this kind, and its first block this
+    /// worker.
     pub fn allows(&self, kind: Kind, worker: u32) -> bool
         ensures { result ≡ allows_in self.now kind worker }
     {
@@ -211,7 +211,7 @@ impl LockState {
         )
     }
 
-    /// Whether the next section may be of this kind and this thread: where the journal is strict, one
+    /// Whether the next section may be of this kind and this thread. If the journal is strict, one
     /// that is passed on goes to another thread than that of the section before it.
     pub fn passes_to(&self, kind: Kind, thread: u32) -> bool
         ensures { result ≡ passes_in self.now kind thread }
@@ -221,8 +221,8 @@ impl LockState {
         !contents.strict || passes_to(last, kind, thread)
     }
 
-    /// Makes room for one entry and for as many foreign words. A place in a journal is a number of
-    /// 32 bits, so more words than that are refused like memory that is not there.
+    /// Makes room for one entry and as many foreign words. An index in a journal has 32 bits, so
+    /// more words than that are refused as if memory had run out.
     pub fn reserve(&mut self, turns: usize) -> Result<(), AllocError>
         ensures ok { OnOk result (self.new ≡ with_journal (with_room 1 turns) self.old) }
         ensures err { OnErr result (self.new ≡ self.old) }
@@ -237,8 +237,8 @@ impl LockState {
         Ok(())
     }
 
-    /// Opens the entry of a block whose thread has these registers and this fuel before it. For
-    /// registers that are packed once for several locks, see `open_packed`.
+    /// Opens the entry of a block, given the registers and the fuel of its thread before it. If
+    /// several locks share packed registers, see `open_packed`.
     pub fn open_entry(&mut self, start: Regs, fuel: u32)
         requires opened { self.old.journal.opened ≡ None }
         requires closed { self.old.journal.closed ≡ None }
@@ -248,7 +248,7 @@ impl LockState {
         self.open_packed(&Packed::of(&start), fuel);
     }
 
-    /// Like `open_entry`, of registers that are packed once for several locks.
+    /// Like `open_entry`, with registers that are packed once for several locks.
     pub fn open_packed(&mut self, start: &Packed, fuel: u32)
         requires opened { self.old.journal.opened ≡ None }
         requires closed { self.old.journal.closed ≡ None }
@@ -265,8 +265,9 @@ impl LockState {
         contents.entry_room -= 1;
     }
 
-    /// Like `open_entry`, where the last entry ended with these registers, as it did where the block
-    /// goes on with a section. They are not noted again.
+    /// Like `open_entry`, if the last entry ended with these registers, as it did when the block
+    /// continues a section. They are not stored again.
+    /// To compare the packed registers instead took some sixty instructions for each lock of a block.
     pub fn open_on(&mut self, start: &Regs, fuel: u32)
         requires opened { self.old.journal.opened ≡ None }
         requires closed { self.old.journal.closed ≡ None }
@@ -292,7 +293,7 @@ impl LockState {
         number_from(self.contents.start, &self.contents.bytes, addr, width)
     }
 
-    /// Writes the low bytes of a value, 1, 2 or 4, into the guard, the lowest first.
+    /// Writes the low 1, 2 or 4 bytes of a value into the guard, little-endian.
     pub fn store(&mut self, addr: u32, width: u32, value: u32)
         requires width { IsWidth width }
         requires inside { in_guard addr width (guard_of self.old) ≡ true }
@@ -308,7 +309,7 @@ impl LockState {
         );
     }
 
-    /// Notes a word that came from elsewhere: a load outside the guard, or the answer to a LOCK.
+    /// Notes a value that came from elsewhere: a load outside the guard, or the answer to a LOCK.
     pub fn note_foreign(&mut self, value: u32)
         requires opened { is_some self.old.journal.opened ≡ true }
         requires room { 0 < self.old.journal.word_room }
@@ -319,7 +320,7 @@ impl LockState {
         contents.word_room -= 1;
     }
 
-    /// Counts a section: the turn took the lock.
+    /// Counts a section: the step took the lock.
     pub fn begin_section(&mut self)
         requires { is_some self.old.journal.opened ≡ true }
         ensures { self.new ≡ with_section self.old }
@@ -327,7 +328,7 @@ impl LockState {
         self.contents.sections = self.contents.sections.saturating_add(1);
     }
 
-    /// Breaks the lock: its thread ended while it held it.
+    /// Breaks (poisons) the lock: its thread ended while it held it.
     pub fn break_lock(&mut self)
         requires { is_some self.old.journal.opened ≡ true }
         ensures { self.new ≡ with_break self.old }
@@ -335,9 +336,9 @@ impl LockState {
         self.contents.broken = true;
     }
 
-    /// Closes the open entry with its block and the registers after it. The lock is broken from
-    /// then on where the block ended its thread. The block's stamp and worker don't count yet. For
-    /// registers that are packed once for several locks, see `close_packed`.
+    /// Closes the open entry with its block and the registers after it. If the block ended its
+    /// thread, the lock is broken from then on. The block's stamp and worker are not valid yet. If
+    /// several locks share packed registers, see `close_packed`.
     pub fn close_entry(&mut self, image: &Image, block: Block, end: Regs)
         requires image { self.old.journal.image ≡ image.now }
         requires opened { is_some self.old.journal.opened ≡ true }
@@ -347,7 +348,7 @@ impl LockState {
         self.close_packed(image, &block, &Packed::of(&end));
     }
 
-    /// Like `close_entry`, of registers that are packed once for several locks.
+    /// Like `close_entry`, with registers that are packed once for several locks.
     pub fn close_packed(&mut self, image: &Image, block: &Block, end: &Packed)
         requires image { self.old.journal.image ≡ image.now }
         requires opened { is_some self.old.journal.opened ≡ true }

@@ -1,4 +1,4 @@
-//! The blocks that workers reported, beside those that were printed.
+//! The blocks that workers reported, compared with those that were printed.
 
 use crate::ran::Ran;
 use crate::usher::Report;
@@ -39,7 +39,7 @@ fn committed(alloc: Global, worker: u32, reports: &[Report]) -> Result<Vec<Point
     Ok(own)
 }
 
-/// Whether the lines that have this in them are of these blocks, one for each, in their order.
+/// Whether the lines that contain this are those of these blocks, one for each, in their order.
 fn are_lines_of(
     alloc: Global,
     ran: &Ran,
@@ -73,8 +73,8 @@ pub(crate) fn are_reported(
     are_lines_of(alloc, ran, &by_worker, &own)
 }
 
-/// Whether the block that this worker reported last is this thread's, and ended with a wish for a
-/// lock.
+/// Whether the block that this worker reported last is this thread's, and ended with
+/// `wants`.
 fn is_wish(last: Option<Point>, thread: u32) -> bool {
     match last {
         Some(Point::Committed(by, End::Wants(_))) => by == thread,
@@ -82,8 +82,8 @@ fn is_wish(last: Option<Point>, thread: u32) -> bool {
     }
 }
 
-/// How many threads a worker has shipped, each right behind its own report of the thread's wish for
-/// a lock. None: it has shipped another one.
+/// How many threads a worker has shipped, each right after its own report that the thread wants a
+/// lock. None: it has shipped another one.
 pub(crate) fn shipments(reports: &[Report], worker: u32) -> Option<usize> {
     let mut last = None;
     let mut count: usize = 0;

@@ -1,4 +1,4 @@
-//! Two workers at gates: one is held until the other has come so far.
+//! Two workers at observers: one is held until the other has come so far.
 
 use crate::committed::{are_of_two, are_reported, shipments};
 use crate::ran::{Ran, run_at};
@@ -58,7 +58,7 @@ fn two_workers_claim_a_thread_each(rt: HostRuntime) -> Result<(), Fail> {
     Ok(())
 }
 
-/// Four threads are claimed by four workers: none sits out while the others work.
+/// Four threads are claimed by four workers: none is idle while the others work.
 #[test]
 fn each_of_four_workers_claims_a_thread(rt: HostRuntime) -> Result<(), Fail> {
     let alloc = rt.alloc();
@@ -81,7 +81,7 @@ fn two_workers_run_a_demonstration(rt: HostRuntime) -> Result<(), Fail> {
     Ok(())
 }
 
-/// A thread that counted to 100 has run so many turns, and has so much fuel left.
+/// A thread that counted to 100 has run so many steps, and has so much fuel left.
 fn check_counted<R: Abort>(
     rt: &R,
     alloc: Global,

@@ -1,11 +1,11 @@
-//! Tests of the program as a whole, through its top call, that need more than words and bytes: gates
-//! that hold workers, and memory that is refused. What words and bytes come to alone is a row in the
-//! table of `answers`.
+//! Tests of the whole program, through its top call, that need more than arguments and bytes:
+//! observers (gates) that hold workers, and memory that runs out. Tests of arguments and bytes
+//! alone are rows in the table of `answers`.
 //!
-//! `ran` runs the program over files in memory. `usher` is a gate that holds workers until others have
-//! come so far, `committed` compares its reports with the blocks that were printed. `gates` has workers
-//! of one line, `nodes` those that belong to nodes, `starved` runs to which memory is refused, `made`
-//! the file of the generator's guest.
+//! `ran` runs the program over files in memory. `usher` is an observer that holds workers until
+//! others have come so far; `committed` compares its reports with the blocks that were printed.
+//! `gates` tests workers with FIFO queues, `nodes` those on NUMA nodes, `starved` runs out of
+//! memory, and `made` checks the file of the generator's guest.
 #![tactic(auto)]
 
 #[cfg(test)]

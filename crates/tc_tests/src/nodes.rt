@@ -1,4 +1,4 @@
-//! Runs by workers that belong to nodes.
+//! Runs by workers that belong to NUMA nodes.
 
 use crate::ran::run_at;
 use crate::usher::{Hold, Report, Usher, claimed_by};
@@ -9,8 +9,8 @@ use std::sync::Wait;
 use std::test::Fail;
 use std::thread::Threads;
 
-/// Which of workers 1 and 2 shipped the thread whose adopted section this line shows, and 0 where
-/// neither did.
+/// Which of workers 1 and 2 shipped the thread whose adopted section this line shows; 0 if neither
+/// did.
 fn shipper(alloc: Global, reports: &[Report], line: &str) -> Result<u32, AllocError> {
     for worker in 1..3 {
         let thread = claimed_by(reports, worker).unwrap_or(0);
@@ -23,8 +23,8 @@ fn shipper(alloc: Global, reports: &[Report], line: &str) -> Result<u32, AllocEr
 }
 
 /// Three workers of two nodes, of which worker 1 is alone on its node, run three threads of one
-/// section each. Worker 0 releases the lock while worker 1's thread waits for it, and behind that
-/// worker 2's. Answers by which worker the thread of the next section was shipped.
+/// section each. Worker 0 releases the lock while worker 1's thread waits for it, and after that
+/// worker 2's. It returns the worker that shipped the thread of the next section.
 fn served_first<R: Abort + Threads + Wait + Sync>(
     rt: &R,
     alloc: Global,
@@ -39,8 +39,8 @@ fn served_first<R: Abort + Threads + Wait + Sync>(
     shipper(alloc, &reports, ran.second(" held 0 "))
 }
 
-/// A waiter of the releaser's node comes before an older one of another node, but only where the
-/// bound lets the older one be passed over.
+/// A waiter of the releaser's node is served before an older one of another node, if and only if
+/// the bound lets the older one be passed over.
 #[test]
 fn a_waiter_of_the_node_is_preferred_within_the_bound(rt: HostRuntime) -> Result<(), Fail> {
     let alloc = rt.alloc();

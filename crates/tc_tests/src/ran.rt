@@ -10,7 +10,7 @@ use tc_main::gate::Gate;
 use tc_main::status::Status;
 use tc_main::top::tclocks;
 
-/// What a run ended with, and what it wrote.
+/// The status of a run, and what it wrote.
 #[derive(Drop)]
 pub(crate) struct Ran {
     pub status: Status,
@@ -18,12 +18,12 @@ pub(crate) struct Ran {
 }
 
 impl Ran {
-    /// What was written as text, and nothing where it is none.
+    /// What was written, if it is text, else nothing.
     pub(crate) fn text(&self) -> &str {
         from_utf8(&self.written).unwrap_or("")
     }
 
-    /// The second of the text's lines that have this in them.
+    /// The second of the text's lines that contain this.
     pub(crate) fn second(&self, part: &str) -> &str {
         let mut is_second = false;
         for line in self.text().lines() {
@@ -49,7 +49,7 @@ impl Ran {
     }
 }
 
-/// The words of the command line, which are told apart by blanks.
+/// The command-line arguments, separated by blanks.
 fn words_of(alloc: Global, written: &str) -> Result<Vec<Word>, AllocError> {
     let mut words = Vec::new(alloc);
     for word in written.split_ascii_whitespace() {
@@ -58,7 +58,7 @@ fn words_of(alloc: Global, written: &str) -> Result<Vec<Word>, AllocError> {
     Ok(words)
 }
 
-/// The top call. What it promises is not used here: tests look at what comes of it.
+/// The top call. Its contract is not used here: tests check its results.
 fn top<R: Threads + Wait + Sync, S: Source, K: Sink, G: Gate>(
     rt: &R,
     alloc: Global,
@@ -70,8 +70,8 @@ fn top<R: Threads + Wait + Sync, S: Source, K: Sink, G: Gate>(
     tclocks(rt, alloc, words, source, sink, gate)
 }
 
-/// Runs the program on the words and a file, by workers that tell a gate how far they are. No call of
-/// the source or of the sink fails.
+/// Runs the program on the arguments and a file, by workers that call an observer. No call of the
+/// source or of the sink fails.
 pub(crate) fn run_at<R: Threads + Wait + Sync, G: Gate>(
     rt: &R,
     alloc: Global,

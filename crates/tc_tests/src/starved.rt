@@ -1,5 +1,5 @@
-//! Runs to which memory is refused in their middle. A gate takes all memory that there is, in pieces
-//! to which nobody writes, so that the host has to give next to none of it.
+//! Runs that run out of memory in the middle. An observer allocates all memory, in pieces to which
+//! nobody writes, so that the host has to provide almost none of it.
 
 use crate::ran::run_at;
 use guest_code::file::{built, plain};
@@ -12,7 +12,7 @@ use std::thread::Threads;
 use tc_main::gate::{Gate, Point};
 use tc_main::status::Status;
 
-/// Behind so many blocks nothing is left. Whatever grows to more than LEAST bytes is refused then.
+/// After so many blocks nothing is left. Whatever grows to more than LEAST bytes then runs out of memory.
 const PLENTY: u32 = 8_000;
 
 /// How large the pieces are, the largest first: powers of 2 from 2^46 on, and each of those near to the
@@ -40,7 +40,7 @@ const LEAST: usize = 0x0004_0000;
 /// For how many pieces there is room.
 const MOST_PIECES: usize = 200_000;
 
-/// Takes all memory behind so many blocks, and goes on to take what is given back.
+/// Allocates all memory after so many blocks, and goes on to allocate what is freed.
 #[derive(Drop)]
 struct Hungry<'a, R: Wait + Sync> {
     rt: &'a R,
@@ -49,7 +49,7 @@ struct Hungry<'a, R: Wait + Sync> {
     pieces: Mutex<Vec<Vec<u8>>>,
 }
 
-/// Takes pieces of this size until none is left.
+/// Allocates pieces of this size until none is left.
 fn take_pieces(alloc: Global, pieces: &mut Vec<Vec<u8>>, size: usize) {
     for _ in pieces.len()..MOST_PIECES {
         let Ok(piece) = Vec::with_capacity(alloc, size) else {
@@ -61,7 +61,7 @@ fn take_pieces(alloc: Global, pieces: &mut Vec<Vec<u8>>, size: usize) {
     }
 }
 
-/// Takes pieces of all sizes.
+/// Allocates pieces of all sizes.
 fn take_all(alloc: Global, pieces: &mut Vec<Vec<u8>>) {
     for size in &SIZES {
         take_pieces(alloc, pieces, *size);
@@ -103,7 +103,7 @@ impl<'a, R: Wait + Sync> Hungry<'a, R> {
 const ENDLESS: &str =
     "DATA LOCK_0 ADD UNLOCK_0 fddff06f LOCK_0 00100513 00300893 ECALL UNLOCK_0 fddff06f";
 
-/// A run to which memory is refused in its middle ends, and nothing is written.
+/// A run that runs out of memory in the middle ends, and nothing is written.
 fn check_refused<R: Threads + Wait + Sync + Abort>(
     rt: &R,
     alloc: Global,
@@ -117,8 +117,8 @@ fn check_refused<R: Threads + Wait + Sync + Abort>(
     Ok(())
 }
 
-/// Whatever number of workers there is, memory that is refused in the middle of a run ends it: all
-/// workers stop, nothing is written, and the next run finds all memory that there was.
+/// For every number of workers, running out of memory in the middle of a run ends it: all workers
+/// stop, nothing is written, and the next run has all the memory again.
 #[test]
 fn refused_memory_ends_a_run(rt: HostRuntime) -> Result<(), Fail> {
     assert_eq!(rt; Status::OutOfMemory.number(), 5);
@@ -145,8 +145,8 @@ x24 00000000 00000000 00000000 00000000 00000000 00000000 00000000 00000000
 end
 ";
 
-/// What is read takes memory as it comes: where there is no piece of 64 MiB, a short history is replayed
-/// all the same, though one of 256 MiB might have come.
+/// Input is allocated as it is read: without a free piece of 64 MiB a short history is still
+/// replayed, though one of 256 MiB might have come.
 #[test]
 fn a_short_input_takes_little_memory(rt: HostRuntime) -> Result<(), Fail> {
     let alloc = rt.alloc();

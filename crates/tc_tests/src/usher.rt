@@ -1,4 +1,4 @@
-//! A gate that keeps all reports, and holds a worker until others have come so far.
+//! An observer that keeps all reports, and holds a worker until others have come so far.
 
 use std::alloc::Global;
 use std::sync::atomic::{AtomicBool, Ordering};
@@ -7,8 +7,8 @@ use std::thread::yield_now;
 use tc_journal::block::End;
 use tc_main::gate::{Gate, Point};
 
-/// How often a held worker looks whether it may go on. Where workers do not come as they should, one
-/// comes to this limit, and the test fails there.
+/// How often a held worker checks whether it may go on. If workers do not come as expected, one
+/// reaches this limit, and the test fails there.
 const LOOKS: u32 = 10_000_000;
 
 /// A worker's number, and where it is.
@@ -43,7 +43,7 @@ impl Hold {
     }
 }
 
-/// Whether one of three workers may go on at the point, where they come in turn.
+/// Whether one of three workers may go on at the point, if they come in turn.
 fn comes_in_turn(reports: &[Report], worker: u32, point: Point) -> bool {
     match (worker, point) {
         (0, Point::Claimed(_)) => have_claimed(reports, 3),
@@ -109,7 +109,7 @@ pub(crate) fn is_released(reports: &[Report]) -> bool {
     false
 }
 
-/// Keeps all reports, holds each worker until it may go on, and notes whether one came to the limit.
+/// Keeps all reports, holds each worker until it may go on, and notes whether one reached the limit.
 #[derive(Drop)]
 pub(crate) struct Usher<'a, R: Wait + Sync> {
     pub rt: &'a R,
@@ -128,7 +128,7 @@ impl<'a, R: Wait + Sync> Usher<'a, R> {
         }
     }
 
-    /// Whether each worker that was held was let go before the limit.
+    /// Whether each worker that was held was released before the limit.
     pub(crate) fn was_in_time(&self) -> bool {
         !self.gave_up.load(Ordering::SeqCst)
     }

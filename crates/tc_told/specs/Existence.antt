@@ -1,4 +1,4 @@
--- That there is a history which keeps the rules and shows delegation.
+-- There is a history that obeys the rules and shows delegation.
 use Rattle.std.specs.Prelude.{ℕ, List}
 use Rattle.tc_elf.specs.Shown.{Shown}
 use Rattle.tc_journal.specs.History.{IsHistory}
@@ -8,7 +8,7 @@ use Rattle.tc_core.specs.Core.{Limits}
 use Rattle.tc_told.specs.Handover.{ShowsDelegation}
 use Rattle.tc_told.specs.Written.{KeepsRules}
 
--- a history that keeps the rules, by the workers that it names too, shows delegation, and goes to the end of every thread
+-- a complete history that obeys the rules, also by the workers that it names, and shows delegation
 pub record HasHistory (image : Shown) (limits : Limits) (fuel : ℕ) : Type 0 where
   pub history : List Block
   pub numbers : IsHistory history

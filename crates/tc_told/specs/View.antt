@@ -1,4 +1,4 @@
--- The program's writer as the core with what was written.
+-- The program's writer as the abstract machine with what was written.
 use Rattle.std.specs.Prelude.{◌≡◌, ℕ, Bool, true, false, List, length, slice_get, unwrap_or}
 use Rattle.tc_elf.specs.Shown.{Shown}
 use Rattle.tc_journal.specs.declared.block.Block.{Block}
@@ -14,7 +14,7 @@ pub record WriterView : Type 0 where
   pub next : List Beginning
   pub history : List Block
 
--- what stands past the image's threads
+-- the entry for numbers above the image's threads
 abbrev pub no_beginning : Beginning
 no_beginning = record { kind = kind.Start; pc = no_thread.regs.pc }
 

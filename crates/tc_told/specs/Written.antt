@@ -1,4 +1,4 @@
--- The history that events of the pure machine write: each Commit writes one block, as the core has it.
+-- The history that events of the abstract machine write: each Commit writes one block, as in the machine's state.
 use Rattle.std.specs.Prelude.{◌≡◌, ℕ, ◌<◌, ◌==◌, if◌then◌else◌, List, [], ◌∷◌, ◌++◌, length, map, All, Option, Some, None}
 use Rattle.std.specs.Option.{option_map}
 use Rattle.tc_elf.specs.Shown.{Shown}
@@ -24,7 +24,7 @@ pub use Rattle.tc_told.specs.declared.writer.Beginning.{Beginning}
 
 -- ---- what events write
 
--- the core; what is known of each thread's next block before its first turn; and what was written so far
+-- the machine; what is known of each thread's next block before its first step; and what was written so far
 pub record Written : Type 0 where
   pub core : Core
   pub next : ℕ → Beginning
@@ -37,8 +37,8 @@ first_written image fuel = record {
   history = [];
 }
 
--- what an event says of a thread's next block: with a lock that is given, how it begins; after a Commit, that it goes on, from
--- where the thread stands
+-- what an event determines of a thread's next block: with a lock that is granted, how it begins;
+-- after a Commit, that it goes on from the thread's pc
 abbrev pub said_by : Written → Event → Option (ℕ × Beginning)
 said_by s (Take w t lock) = Some (t, record (s.next t) { kind = kind.Taken })
 said_by s (Adopt w t lock) = Some (t, record (s.next t) { kind = kind.Adopted })
@@ -83,7 +83,7 @@ history_of image fuel events = (write_all image (first_written image fuel) event
 
 -- ---- which histories are written
 
--- the history is written by events of the machine, each of them enabled when it comes
+-- the history is written by enabled events of the machine
 pub record IsWritten (image : Shown) (limits : Limits) (fuel : ℕ) (h : List Block) : Type 0 where
   pub events : List Event
   pub enabled : AreEnabled image limits (first_core image fuel) events
@@ -93,8 +93,8 @@ pub record IsWritten (image : Shown) (limits : Limits) (fuel : ℕ) (h : List Bl
 abbrev pub as_of_one : List Block → List Block
 as_of_one bs = map (λ (b : Block). record b { worker = 0 }) bs
 
--- the stamps are 0, 1, 2 and so on, the history tells a run under ordinary mutexes, each block is of a worker that there is, and the
--- blocks of each lock pass its sections on to other threads and, whoever ran them, obey the batch limit
+-- the stamps are 0, 1, 2 and so on, the history is a trace of ordinary mutexes, the worker of each block exists,
+-- and the blocks of each lock pass its sections on to other threads and, whoever ran them, obey the batch limit
 pub record KeepsRules (image : Shown) (limits : Limits) (fuel : ℕ) (h : List Block) : Type 0 where
   pub last : State
   pub stamps : IsInOrder h
@@ -105,7 +105,7 @@ pub record KeepsRules (image : Shown) (limits : Limits) (fuel : ℕ) (h : List B
 
 -- ---- how the events may end
 
--- where a thread rests after a history: done where it ended, parked where its last block ended with a SLEEP, else ready
+-- where a thread rests after a history: done if it ended, parked if its last block ended with a SLEEP, else ready
 abbrev pub place_after : State → List Block → ℕ → ThreadPlace
 place_after last h t =
     if is_running (last.threads t).status
@@ -117,25 +117,25 @@ abbrev pub place_with : Option ℕ → LockPlace
 place_with None = place.Free
 place_with (Some t) = With t
 
--- and who stands in its line
+-- and who is in its queue
 abbrev pub line_with : Option ℕ → List ℕ
 line_with None = []
 line_with (Some t) = t ∷ []
 
--- no thread is at a worker or waits, and each lock is with its owner, who stands alone in its line, or free, and nobody stands there
+-- no thread is at a worker or waits; each lock is with its owner, alone in its queue, or free with an empty queue
 pub record IsAtRest (image : Shown) (last : State) (h : List Block) (c : Core) : Type 0 where
   pub threads : (t : ℕ) → t < length image.entries → (c.course t).place ≡ place_after last h t
   pub places : (k : ℕ) → k < length image.guards → (c.custody k).place ≡ place_with (last.locks k).owner
   pub lines : (k : ℕ) → k < length image.guards → (c.custody k).line ≡ line_with (last.locks k).owner
 
--- the history is written by events of the machine, each of them enabled when it comes, after which all is at rest
+-- the history is written by enabled events of the machine, after which all is at rest
 pub record IsWrittenToRest (image : Shown) (limits : Limits) (fuel : ℕ) (h : List Block) : Type 0 where
   pub events : List Event
   pub enabled : AreEnabled image limits (first_core image fuel) events
   pub writes : history_of image fuel events ≡ h
   pub rest : IsAtRest image (end_after image fuel h) h (after_all image (first_core image fuel) events)
 
--- and after which, where no thread goes on, each thread is done, and each lock free, and nobody stands in its line
+-- and after which, if no thread can go on, each thread is done, each lock free, and its queue empty
 pub record IsWrittenWhole (image : Shown) (limits : Limits) (fuel : ℕ) (h : List Block) : Type 0 where
   pub events : List Event
   pub enabled : AreEnabled image limits (first_core image fuel) events
@@ -144,7 +144,7 @@ pub record IsWrittenWhole (image : Shown) (limits : Limits) (fuel : ℕ) (h : Li
   pub places : (k : ℕ) → k < length image.guards → ((after_all image (first_core image fuel) events).custody k).place ≡ place.Free
   pub lines : (k : ℕ) → k < length image.guards → ((after_all image (first_core image fuel) events).custody k).line ≡ []
 
--- events write a front of the history, after which each thread rests, and then the others write what is left of it
+-- events write a prefix of the history, after which each thread rests, and further events write the rest of it
 pub record IsWrittenInParts (image : Shown) (limits : Limits) (fuel : ℕ) (front back : List Block) : Type 0 where
   pub first : List Event
   pub more : List Event

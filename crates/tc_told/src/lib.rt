@@ -1,23 +1,23 @@
-//! What a printed history is to the pure machine of delegation: one that it can do.
+//! Histories and the abstract machine of delegation: which printed histories are its traces.
 //!
-//! A Commit event writes one block: its thread, worker, turns, held set and end as the core has
-//! them, its kind by the event that gave the thread its lock, and its `pc` from where the thread
-//! stood at its Commit before. So every list of events writes a history.
-//! `realization::realization` says which histories events write that are each enabled when they
-//! come: just those that tell a run of ordinary mutexes and keep the rules of its locks, whoever
-//! runs an adopted section. So the table of events asks for nothing that a report could not show,
-//! lets each report through, and lets nothing through that breaks a rule. It says what the machine
-//! can do, and not what the workers did: where a history is given, the events are found from it.
+//! A Commit event writes one block: its thread, worker, steps, held set and end are those of
+//! the machine's state, its kind is that of the event that gave the thread its lock, and its
+//! `pc` is the thread's at its previous Commit. So every list of events writes a history.
+//! `realization::realization` says that a history is written by enabled events if and only if
+//! it is a trace of ordinary mutexes that obeys the rules of its locks, whoever runs an
+//! adopted section. So events are enabled neither too seldom nor too often. The theorem says
+//! what the machine can do, not what the workers did: the events are constructed from the
+//! history.
 //!
-//! `handover::handover` says what a history that keeps the rules, by the workers that it names, shows
-//! of delegation where it also keeps the laws of tc_journal's `specs/Handing.antt`: who had the lock
-//! before an adopted section, since when its thread was at its LOCK, and where a section runs.
+//! `handover::handover` says what a history that obeys the rules shows of delegation, if it also
+//! obeys those of tc_journal's `specs/Handing.antt`: who had the lock before an adopted section,
+//! since when its thread was at its LOCK, and where a section runs.
 //!
-//! - `specs/Written.antt`: what events write, which histories keep the rules, and how events end.
-//! - `realization`, `handover`: the laws; `specs/Handover.antt` has the words of the second.
-//!   `existence`: that there is such a history of every guest.
-//! - `writer`: the same as a program, `Writer`, over tc_core's `Core`; `specs/View.antt` says what
-//!   it stands for.
+//! - `specs/Written.antt`: what events write, which histories obey the rules, and how events end.
+//! - `realization`, `handover`: the theorems; `specs/Handover.antt` has the definitions of the
+//!   second. `existence`: every guest has such a history.
+//! - `writer`: an executable form, `Writer`, over tc_core's `Core`; `specs/View.antt` says what it
+//!   represents.
 #![tactic(auto)]
 
 pub mod existence;

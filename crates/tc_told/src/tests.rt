@@ -17,7 +17,7 @@ use tc_elf::image::Image;
 use tc_elf::load::load;
 use tc_journal::reading::read;
 
-/// What a worker does with a thread: an event, of this lock where it has one. `Turn` is so many.
+/// What a worker does with a thread: an event, of this lock if it has one. `Turn` is so many.
 #[derive(Clone, Copy)]
 enum Deed {
     Claim,
@@ -209,7 +209,7 @@ fn check<R: Abort>(
     Ok(())
 }
 
-/// A lock is taken at home, left while the next thread stands in its line already, and taken again.
+/// A free lock is taken, left while the next thread is already in its queue, and taken again.
 #[test]
 fn a_lock_is_taken_again(rt: HostRuntime) -> Result<(), Fail> {
     let rows: &[Row<'_>] = &[
@@ -243,8 +243,8 @@ block 4 thread 0 turns 2 held - kind on worker 0 pc 00100028 end exit
 block 5 thread 1 turns 2 held - kind on worker 1 pc 00100028 end exit
 ";
 
-/// A waiter that stands in the line while the lock is held: its section is run by the worker that
-/// releases the lock, and the rest of its thread by another one.
+/// A waiter is in the queue while the lock is held: its section is run by the worker that releases
+/// the lock, and the rest of its thread by another one.
 #[test]
 fn a_waiter_is_adopted(rt: HostRuntime) -> Result<(), Fail> {
     let rows: &[Row<'_>] = &[
@@ -260,8 +260,8 @@ fn a_waiter_is_adopted(rt: HostRuntime) -> Result<(), Fail> {
     check(&rt, rt.alloc(), &ONE, 4, rows, ADOPTED)
 }
 
-/// The same history by other events, those that the law finds: each thread goes back behind each
-/// block, and the waiter enters right before it is adopted, while nobody has the lock.
+/// The same history by other events, those that the theorem constructs: each thread goes back after
+/// each block, and the waiter enters right before it is adopted, while nobody has the lock.
 #[test]
 fn a_waiter_is_adopted_as_it_comes(rt: HostRuntime) -> Result<(), Fail> {
     let rows: &[Row<'_>] = &[
@@ -302,8 +302,8 @@ block 5 thread 0 turns 2 held - kind on worker 0 pc 00100028 end exit
     check(&rt, rt.alloc(), &ONE, 4, rows, lines)
 }
 
-/// Where no section may be adopted, the waiter is granted the lock, and the worker that claims it
-/// runs its section.
+/// If no section may be adopted, the waiter is granted the lock, and the worker that claims it runs
+/// its section.
 #[test]
 fn a_waiter_is_granted_the_lock(rt: HostRuntime) -> Result<(), Fail> {
     let rows: &[Row<'_>] = &[
@@ -355,7 +355,7 @@ block 6 thread 1 turns 2 held - kind on worker 1 pc 00100058 end exit
     check(&rt, rt.alloc(), &DOZE, 4, rows, lines)
 }
 
-/// A thread ends with two locks: a waiter is granted the one, and the other goes home.
+/// A thread ends with two locks: a waiter is granted the one, and the other becomes free.
 #[test]
 fn a_thread_ends_with_two_locks(rt: HostRuntime) -> Result<(), Fail> {
     let rows: &[Row<'_>] = &[

@@ -1,4 +1,4 @@
-//! What events write, as a program.
+//! What events write, in executable form.
 
 ghost use Rattle.std.specs.Prelude.{◌≡◌, ℕ, ◌<◌, IfOk, IfSome, OnErr, length};
 ghost use Rattle.std.specs.Vec.{vec_len, vec_capacity};
@@ -14,16 +14,16 @@ use tc_core::machine::Core;
 use tc_elf::image::Image;
 use tc_journal::block::{Block, Kind};
 
-/// What is known of a thread's next block before its first turn.
+/// What is known of a thread's next block before its first step.
 #[derive(Clone, Copy, Debug, PartialEq, Eq)]
 pub struct Beginning {
-    /// How it begins, as far as the events have said.
+    /// How it begins, as far as the events have determined it.
     pub kind: Kind,
     /// The address of its first instruction.
     pub pc: u32,
 }
 
-/// The pure machine, and the history that its events have written. A contract sees both as
+/// The abstract machine, and the history that its events have written. Contracts see both as
 /// `written_of` shows them.
 #[derive(Drop)]
 pub struct Writer {
@@ -41,7 +41,7 @@ impl Model for Writer {
 }
 
 impl Writer {
-    /// The machine at the start, and nothing written.
+    /// The machine at the start, and an empty history.
     pub fn new(
         alloc: Global,
         image: &Image,
@@ -64,8 +64,8 @@ impl Writer {
         })
     }
 
-    /// One event: true where it is enabled; then it has its effect, and a Commit writes its block.
-    /// Nothing changes where it is not, nor where memory for a block is refused.
+    /// One event: true if it is enabled; then it has its effect, and a Commit writes its block.
+    /// Otherwise, or if memory for a block runs out, nothing changes.
     pub fn step(&mut self, image: &Image, event: Event) -> Result<bool, AllocError>
         requires { IsWriterOf image.now self.old }
         ensures wrote { IfOk result (λ enabled. DidWrite image.now self.old event enabled self.new) }
@@ -90,7 +90,7 @@ impl Writer {
         self.history.as_slice()
     }
 
-    /// How the thread's next block begins. A number of no thread has what none has.
+    /// How the thread's next block begins. A number without a thread has what every thread has at first.
     fn beginning(&self, thread: u32) -> Beginning
         ensures { result ≡ beginning_at self.now.next thread }
     {
@@ -111,7 +111,7 @@ impl Writer {
         Some((thread, Beginning { kind, pc }))
     }
 
-    /// What the event says of a thread's next block.
+    /// What the event determines of a thread's next block.
     fn said_by(&self, image: &Image, event: Event) -> Option<(u32, Beginning)>
         requires { IsWriterOf image.now self.now }
         ensures { result ≡ said_by (written_of self.now) event }
@@ -168,7 +168,7 @@ fn first_beginnings(alloc: Global, image: &Image, core: &Core) -> Result<Vec<Beg
     Ok(next)
 }
 
-/// Keeps what was said of a thread's next block.
+/// Stores what was determined of a thread's next block.
 fn note(next: &mut [Beginning], said: Option<(u32, Beginning)>)
     requires { IfSome said (λ s. s.0 < length next.old) }
     ensures each { (t : ℕ) → beginning_at next.new t ≡ with_said (beginning_at next.old) said t }

@@ -1,4 +1,4 @@
-//! The answers that a turn finds.
+//! The answers that a step needs.
 
 ghost use Rattle.std.specs.Prelude.{◌≡◌, ℕ, unwrap_or};
 ghost use Rattle.tc_elf.specs.Shown.{guard_at};
@@ -10,7 +10,7 @@ use crate::number::{Bytes, bytewise, number_from};
 use tc_elf::image::{Image, Region};
 use tc_exec::outcome::Want;
 
-/// A thread with the locks beside it, which a turn of the thread reads.
+/// A thread with the locks beside it, which a step of the thread reads.
 pub trait Surroundings {
     ghost use Rattle.std.specs.Prelude.{ℕ, unwrap_or};
     ghost use Rattle.tc_turn.specs.Memory.{IsAccess, number_at};
@@ -91,6 +91,7 @@ fn number<S: Surroundings>(at: &S, image: &Image, region: Region, addr: u32, wid
 }
 
 /// The answer to this load, or to the LOCK of this lock.
+/// Always inlined: left to the compiler, steps and short blocks cost more instructions.
 #[inline(always)]
 pub fn answer<S: Surroundings>(at: &S, image: &Image, want: Want, next: Option<u32>) -> u32
     requires { IsWant image.now (S.thread at.now).held want }

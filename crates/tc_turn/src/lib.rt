@@ -1,16 +1,16 @@
-//! One turn of a guest thread: what the thread does, and what becomes of it and of each lock.
+//! One step (turn) of a guest thread: what the thread does, and the new state of it and of each lock.
 //!
-//! `specs/Turn.antt` has the words that the machine, a package and the replay of a journal share:
-//! what a thread has, what a lock has, what the next turn does, and both after it. What a turn does
-//! is one act of the layer below, and the thread and each lock change by that act alone, each for
-//! itself. `specs/Memory.antt` says what stands in memory, and `specs/Replay.antt` how a block
-//! replays on what one lock saw of it.
+//! `specs/Turn.antt` has the definitions that the abstract machine, a package and the replay of a
+//! journal share: the state of a thread, the state of a lock, what the next step does, and both
+//! states after it. A step is one act of tc_exec; the thread and each lock change by that act
+//! alone, independently. `specs/Memory.antt` defines memory. `specs/Replay.antt` says how a block
+//! replays from what one lock saw of it.
 //!
-//! - `status`: whether and how a thread has ended. `outcome`: how a turn came out for its block.
-//! - `number`: numbers in bytes. `memory`: a thread's own memory. `thread`: a thread, which does what
-//!   an act says. `own_turns`: its turns that touch its own memory alone.
-//! - `answer`: the answer that a turn finds in its surroundings.
-//! - `turn_laws`: what a turn reads and what it leaves alone.
+//! - `status`: whether and how a thread has ended. `outcome`: how a step came out for its block.
+//! - `number`: numbers in bytes. `memory`: a thread's own memory. `thread`: a thread, which
+//!   executes acts. `own_turns`: its steps that touch its own memory alone.
+//! - `answer`: the answer that a step needs from its surroundings.
+//! - `turn_laws`: lemmas on what a step reads and what it leaves alone.
 #![tactic(auto)]
 
 pub mod answer;

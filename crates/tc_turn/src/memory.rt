@@ -1,4 +1,6 @@
 //! A thread's own memory.
+//!
+//! Access to one part of it is always inlined, since it is in the loop over steps.
 
 ghost use Rattle.std.specs.Prelude.{◌≡◌, true, ◌+◌, ◌≤◌, ◌^◌, ◌<◌, IfOk, OnOk, [], length, map, unwrap_or};
 ghost use Rattle.std.specs.Option.{option_map};
@@ -43,8 +45,8 @@ fn single_bytes(
     Ok(bytes)
 }
 
-/// The bytes that the file gives the addresses from one on. Where one range has them, as it has
-/// those of its own and of a guard, they are copied at once.
+/// The bytes that the file gives the addresses from one on. If one range has them all, as it has a
+/// thread's own memory or a guard, they are copied at once.
 pub fn starting_bytes(
     alloc: Global,
     image: &Image,
@@ -79,8 +81,8 @@ impl Part {
     }
 }
 
-/// The bytes that a thread has for itself: those of the writable ranges outside the guards, and its
-/// stack. They stand in parts, each of the addresses of one place of the image, in the order of
+/// The bytes that a thread has for itself: its stack, and the writable ranges outside the
+/// guards. They are stored in parts, one for each place of the image, in the order of
 /// addresses.
 #[derive(Drop)]
 pub struct Memory {
@@ -203,8 +205,8 @@ impl Memory {
         }
     }
 
-    /// The memory of a thread at its start: the bytes of the writable ranges are as the file says,
-    /// those of the stack are 0.
+    /// The memory of a thread at its start: the writable ranges have the file's bytes, the stack is
+    /// 0.
     pub fn start(alloc: Global, image: &Image) -> Result<Memory, AllocError>
         ensures { IfOk result (λ memory. own_of memory ≡ own_at_start image.now) }
     {
@@ -220,7 +222,7 @@ impl Memory {
         Ok(Memory { parts })
     }
 
-    /// The same memory once more.
+    /// A copy of the memory.
     pub fn copy(&self) -> Result<Memory, AllocError>
         ensures { IfOk result (λ memory. memory ≡ self.now) }
     {
@@ -236,7 +238,7 @@ impl Memory {
         Ok(Memory { parts: copies })
     }
 
-    /// The byte at an address, None exactly where the address is not in this memory.
+    /// The byte at an address; None if and only if the address is not in this memory.
     pub fn byte(&self, addr: u32) -> Option<u8>
         ensures { result ≡ own_of self.now addr }
     {

@@ -1,7 +1,8 @@
-//! Numbers of a few bytes, the lowest first.
+//! Numbers of a few bytes, little-endian.
 //!
-//! A number whose bytes all stand in one list is read and written at once. What else is asked for is
-//! taken byte by byte.
+//! A number whose bytes are all in one list is read and written at once. Others are read and
+//! written byte by byte.
+//! Both short ways are always inlined, since they are in the loop over steps.
 
 ghost use Rattle.std.specs.Prelude.{◌≡◌, ℕ, ◌+◌, ◌≤◌, ◌<◌, ◌^◌, true, length, drop, unwrap_or, IfSome};
 ghost use Rattle.byteorder.specs.Endian.{little_number};
@@ -87,8 +88,8 @@ fn whole(bytes: &[u8], at: usize, width: u32) -> Option<u32>
     }
 }
 
-/// The number in so many bytes from an address on, of the bytes that stand from `start` on. A byte
-/// that is not there counts as 0.
+/// The number of this width at an address of the bytes that begin at `start`. A byte that is not
+/// there counts as 0.
 pub fn number_from(start: u32, bytes: &[u8], addr: u32, width: u32) -> u32
     requires { IsAccess addr width }
     ensures { result
@@ -141,8 +142,8 @@ fn put_bytewise(start: u32, bytes: &mut [u8], addr: u32, width: u32, value: u32)
     }
 }
 
-/// Writes the low `width` bytes of a value, the lowest first, to the addresses from `addr` on,
-/// where `bytes` stand from `start` on. What lies outside of them is not written.
+/// Writes the low `width` bytes of a value, little-endian, to the addresses from `addr` on. `bytes`
+/// begin at `start`; what lies outside them is not written.
 pub fn put_number(start: u32, bytes: &mut [u8], addr: u32, width: u32, value: u32)
     requires { addr + width ≤ 2 ^ 32 }
     ensures { bytes.new ≡ put_number start bytes.old addr width value }

@@ -1,4 +1,4 @@
-//! How a turn came out.
+//! How a step came out.
 
 ghost use Rattle.std.specs.Prelude.{◌≡◌};
 ghost use Rattle.tc_turn.specs.InPlace.{outcome_done};
@@ -7,8 +7,8 @@ ghost use Rattle.tc_turn.specs.Turn as turn;
 use tc_exec::outcome::{Act, Call, Done};
 use tc_journal::rule::Outcome;
 
-/// How a turn that did this came out for the block that it is in. None is the turn of a thread
-/// whose fuel is spent.
+/// How a step that did this came out for its block. None is the step of a thread without
+/// fuel.
 pub fn outcome_of(act: &Option<Act>) -> Outcome
     ensures { result ≡ turn.outcome_of act.now }
 {
@@ -27,7 +27,7 @@ pub fn outcome_of(act: &Option<Act>) -> Outcome
     }
 }
 
-/// The same of what the turn did beside the registers.
+/// The same for what the step did besides its effect on the registers.
 pub fn outcome_by(done: &Option<Done>) -> Outcome
     ensures { result ≡ outcome_done done.now }
 {

@@ -1,4 +1,4 @@
-//! Turns that touch the thread's own memory alone, one after another: `GuestThread::run_own`, and
+//! Steps that touch the thread's own memory alone, one after another: `GuestThread::run_own`, and
 //! `OwnTurns`, which says what it did.
 
 ghost use Rattle.std.specs.Prelude.{◌≡◌, ◌≤◌, true, false, Ok};
@@ -36,12 +36,12 @@ impl Way {
     }
 }
 
-/// Turns that were done, and the instruction behind them.
+/// Steps that were done, and the instruction behind them.
 #[derive(Clone, Copy)]
 pub struct OwnTurns<'a> {
-    /// How many turns.
+    /// How many steps.
     pub count: u32,
-    /// The instruction at which they end, where it is known or was decoded. None says nothing.
+    /// The next instruction after them, if it is known or was decoded. None says nothing.
     pub stop: Option<&'a Instr>,
 }
 
@@ -53,8 +53,10 @@ struct Stretched {
 }
 
 impl GuestThread {
-    /// Does turns that touch registers and its own memory alone, and says how many: at most `most`,
-    /// and none outside the decoded words round the first. It loads only where `loads` says so.
+    /// Does steps that touch registers and the thread's own memory alone, and says how many: at most
+    /// `most`, and none outside the decoded words around the first. It loads only if `loads` allows it.
+    /// Such a step takes no lock, gives no journal a word and ends no block except by its number: so the caller
+    /// looks for the next lock once after all of them.
     pub fn run_own<'a>(
         &mut self,
         image: &Image,

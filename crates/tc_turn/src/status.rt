@@ -7,10 +7,10 @@ use tc_isa::fault::Fault;
 pub enum Status {
     /// It has not ended.
     Running,
-    /// It called EXIT. Its exit code stands in x10.
+    /// It called EXIT. Its exit code is in x10.
     Exited,
     /// An instruction faulted.
     Faulted(Fault),
-    /// Its turn came with no fuel left.
+    /// It had no fuel left for its next step.
     SpentFuel,
 }

@@ -28,8 +28,8 @@ use tc_isa::held::Held;
 use tc_isa::instr::Instr;
 use tc_isa::regs::Regs;
 
-/// A guest thread, with all that is its own, and the numbers of the place of its last access and of
-/// the part of its memory there. A contract sees it as `thread_of` shows it.
+/// A guest thread with all that is its own. It also remembers the place of its last access and the
+/// part of its memory there. Contracts see it as `thread_of` shows it.
 #[derive(Drop)]
 pub struct GuestThread {
     pub(crate) regs: Regs,
@@ -60,8 +60,8 @@ impl GuestThread {
         Ok(thread)
     }
 
-    /// The thread of this number at its start, but for its own memory, which has no byte yet. It
-    /// takes no memory of the system.
+    /// The thread of this number at its start, but with an empty memory of its own. It allocates
+    /// nothing.
     pub fn bare(alloc: Global, image: &Image, fuel: u32, t: u32) -> GuestThread
         requires { t < length image.now.entries }
         ensures { thread_of result ≡ with_own (own_of []) (thread_at_start image.now fuel t) }
@@ -78,7 +78,7 @@ impl GuestThread {
         }
     }
 
-    /// Gives it this memory in the place of the one that it has.
+    /// Replaces its own memory.
     pub fn give(&mut self, own: Memory)
         ensures { self.new ≡ record self.old { own = own } }
     {
@@ -113,15 +113,15 @@ impl GuestThread {
         self.held
     }
 
-    /// The byte of its own memory at an address, None exactly where the address is not in it.
+    /// The byte of its own memory at an address; None if and only if the address is not in it.
     pub fn byte(&self, addr: u32) -> Option<u8>
         ensures { result ≡ own_of self.now.own addr }
     {
         self.own.byte(addr)
     }
 
-    /// The number in so many bytes of its own memory from an address on. A byte that is not in it
-    /// counts as 0.
+    /// The number of this width at an address of its own memory. A byte that is not in it counts as
+    /// 0.
     pub fn number(&self, addr: u32, width: u32) -> u32
         requires { IsAccess addr width }
         ensures { result ≡ number_at (λ at. unwrap_or (own_of self.now.own at) 0) addr width }
@@ -136,7 +136,7 @@ impl GuestThread {
         wants(image, self.held, &self.regs)
     }
 
-    /// What its next turn does with the answer to its load or to its LOCK.
+    /// What its next step does with the answer to its load or to its LOCK.
     pub fn act(&self, image: &Image, answer: u32) -> Option<Act>
         ensures value { result ≡ act_with image.now (thread_of self.now) answer }
         ensures can { IfSome result (CanAct self.now.fuel) }
@@ -149,8 +149,8 @@ impl GuestThread {
         Some(act(image, self.held, &self.regs, answer))
     }
 
-    /// The lock of its next turn, where that is a lawful LOCK. It costs little where the next
-    /// instruction is no LOCK.
+    /// The lock that its next step takes, if that is a LOCK that does not fault. It costs little if
+    /// the next instruction is no LOCK.
     #[tactic(auto, unfolding(crate::specs::Turn::next_lock))]
     pub fn next_lock(&self, image: &Image) -> Option<u32>
         ensures { result ≡ next_lock image.now (thread_of self.now) }
@@ -161,8 +161,9 @@ impl GuestThread {
         }
     }
 
-    /// The load that its next instruction needs, as `wants` tells it, where this is that
+    /// The load that its next instruction needs, as `wants` answers it, given that
     /// instruction.
+    /// Always inlined: left to the compiler, steps and short blocks cost more instructions.
     #[inline(always)]
     pub fn load_wanted(&self, image: &Image, instr: &Instr) -> Want
         requires { instruction_at image.now self.now.regs.pc ≡ Ok instr.now }
@@ -171,8 +172,9 @@ impl GuestThread {
         known::wants(image, self.near, self.held, &self.regs, instr)
     }
 
-    /// What is ahead: the lock of its next turn, as `next_lock` tells it, from the decoded code of
-    /// its image, and the instruction, where it is known or had to be looked for.
+    /// What comes next: the lock that `next_lock` answers, found in the decoded code of its image,
+    /// and the instruction, if it is known or had to be looked up.
+    /// Always inlined: left to the compiler, steps and short blocks cost more instructions.
     #[tactic(auto, unfolding(crate::specs::Turn::next_lock))]
     #[inline(always)]
     pub fn ahead<'a>(&self, image: &Image, code: &'a Code, known: Option<&'a Instr>) -> Ahead<'a>
@@ -188,9 +190,10 @@ impl GuestThread {
         }
     }
 
-    /// Its next turn with the answer to its load or to its LOCK, and what it did beside the
-    /// registers, where this is the instruction at its place and that is the load that it needs.
-    /// None is the turn in which it ends for want of fuel. It is `act` and `take_turn` at once.
+    /// Takes its next step, given the instruction, the load that it needs and the answer to its
+    /// load or LOCK. Returns what the step did besides its effect on the registers; None if the
+    /// thread ended because its fuel is spent. It is `act` and `take_turn` in one.
+    /// Always inlined: left to the compiler, steps and short blocks cost more instructions.
     #[tactic(auto, using(crate::proofs::InPlace::same_thread))]
     #[inline(always)]
     pub fn turn(&mut self, image: &Image, instr: &Instr, want: Want, answer: u32) -> Option<Done>
@@ -217,8 +220,8 @@ impl GuestThread {
         Some(done)
     }
 
-    /// Its next turn, as `turn` does it, where there is no instruction at its place, and this is
-    /// why. It wants no load, and no answer makes a difference. Whether there was fuel for it.
+    /// Takes its next step, as `turn` does, at a place without an instruction; this is why. It
+    /// needs no load and no answer. Returns whether there was fuel for it.
     #[tactic(auto, unfolding(tc_exec::specs::Step::act_of, tc_exec::specs::Step::wants_of))]
     pub fn fault(&mut self, image: &Image, fault: Fault) -> bool
         requires { instruction_at image.now self.old.regs.pc ≡ Err fault }
@@ -235,7 +238,7 @@ impl GuestThread {
         true
     }
 
-    /// Its next turn, where that is the lawful LOCK of this lock with that answer.
+    /// Takes its next step, given that it is the LOCK of this lock, with this answer, and does not fault.
     pub fn take_lock(&mut self, lock: u32, answer: u32)
         requires { CanAct self.old.fuel (Called (Lock lock) (answered self.old.regs answer)) }
         ensures { thread_of self.new
@@ -264,7 +267,7 @@ impl GuestThread {
         }
     }
 
-    /// The thread after its turn. None is the turn in which it ends for want of fuel.
+    /// The thread after its step. None is the step in which it ends because its fuel is spent.
     #[tactic(auto, using(crate::proofs::InPlace::same_thread))]
     pub fn take_turn(&mut self, act: &Option<Act>)
         requires { IfSome act.now (CanAct self.old.fuel) }

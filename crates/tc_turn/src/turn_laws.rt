@@ -1,12 +1,12 @@
-//! The laws of one turn.
+//! The lemmas about one step.
 
 ghost use Rattle.std.specs.Prelude.{◌≡◌, ℕ, Bool, true, false, Some, None};
 ghost use Rattle.tc_elf.specs.Shown.{Shown};
 ghost use Rattle.tc_turn.specs.Turn.{Thread, Mutex, next_lock, next_act, thread_after, mutex_after};
 ghost use Rattle.tc_turn.specs.Reads.{Covers, TakesLock};
 
-/// A turn reads its thread and the locks that the thread holds or takes, and leaves the others
-/// alone. A law: it does nothing when it is called.
+/// A step reads its thread and the locks that the thread holds or takes, and does not change the
+/// others. A lemma: the function has no effect when it is called.
 pub fn turns()
     ensures reads { (image : Shown) (set : ℕ → Bool) (d : Thread) (a b : ℕ → Mutex)
         → Covers image set d → ((k : ℕ) → set k ≡ true → a k ≡ b k)

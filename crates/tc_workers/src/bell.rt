@@ -1,4 +1,4 @@
-//! Where the workers of a crew wait for one another.
+//! The start barrier of a crew, and where its idle workers sleep.
 
 use std::sync::Wait;
 use std::sync::atomic::{AtomicU64, Ordering};
@@ -13,10 +13,10 @@ const LONGEST_WAIT: u64 = 5;
 /// unless that one is not given its processor back.
 const YIELDS: u32 = 100_000;
 
-/// The bell of a crew, with the number of its strokes. Each worker rings it when it begins, and when
-/// it ends. They wait at it for one another before they begin, so that none has done all the work
-/// before the others begin, and sleep at it while they find nothing. It has no meaning, so every
-/// contract holds for every number in it.
+/// The bell of a crew, with the number of its strokes: a start barrier, and a place for idle
+/// workers to sleep. Each worker rings it when it begins and when it ends. Workers wait at it
+/// before they begin, so that none has done all the work before the others begin, and sleep at it
+/// while they find nothing. Contracts do not depend on it: they hold for every number in it.
 #[derive(Drop)]
 pub struct Bell {
     strokes: AtomicU64,

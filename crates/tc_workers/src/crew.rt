@@ -1,4 +1,4 @@
-//! All workers of a run, beside one another.
+//! All workers of a run, in parallel.
 
 ghost use Rattle.std.specs.Prelude.{◌<◌, None, IfOk, length, map};
 ghost use denote.Param.Send.{IsSend, IsSync};
@@ -37,8 +37,8 @@ fn hire_one<Q: Waiters>(
     Ok(Worker { desk, ready })
 }
 
-/// A worker for each pass, who has not begun, with the row of seats and the ready threads of its number.
-/// The one with the greatest number comes first.
+/// A worker for each pass, not started, with its row of seats and its ready threads. The one with
+/// the greatest number comes first.
 pub fn hire<Q: Waiters>(
     alloc: Global,
     bench: &Bench<'_, Q>,
@@ -86,8 +86,10 @@ fn serve<R: Wait, G: Gate, Q: Waiters>(
     finished
 }
 
-/// Runs the workers beside one another until all have ended, and joins their passes into one. All is
-/// done where each of them saw so: where a stop was made, none does.
+/// Runs the workers in parallel until all have ended, and joins their passes into one. All is done
+/// if each of them saw so; after a stop none does.
+/// The caller starts one thread after another and works last itself, so that no new thread has to wait for
+/// a thread that is already at work.
 #[cycle(crew)]
 pub fn together<R: Threads + Wait + Sync, G: Gate, Q: Waiters>(
     rt: &R,

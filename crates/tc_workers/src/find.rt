@@ -1,4 +1,4 @@
-//! How a worker with nothing in hand finds a package.
+//! How a worker without a package finds one.
 
 ghost use Rattle.std.specs.Prelude.{◌≡◌, ◌<◌, None};
 ghost use Rattle.tc_hall.specs.Rule.{threads};
@@ -43,7 +43,7 @@ fn take_up<Q: Waiters>(bench: &Bench<'_, Q>, desk: &mut Desk<Q>, package: Packag
     unreachable!()
 }
 
-/// Claims a thread that may have been claimed by another worker meanwhile.
+/// Claims a thread that another worker may have claimed meanwhile.
 pub fn try_claim<G: Gate, Q: Waiters>(
     bench: &Bench<'_, Q>,
     gate: &G,

@@ -1,4 +1,4 @@
-//! How a worker pauses while it finds nothing.
+//! The back-off of a worker that finds nothing.
 
 use crate::bell::Bell;
 use crossbeam_utils::Backoff;
@@ -33,6 +33,7 @@ const FEW: u64 = 2;
 /// recess it has a thread in hand, which may have slept inside a section: then whoever waits for a
 /// lock of that thread waits as much longer as the recess is long. Pauses have no meaning, so every
 /// contract holds whatever they are.
+/// A bell that each ready thread rings would end no pause sooner: on a hot lock it rings at each section.
 #[derive(Drop)]
 pub(crate) struct Idling<'a> {
     bell: &'a Bell,

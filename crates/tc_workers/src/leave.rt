@@ -1,4 +1,4 @@
-//! How a worker leaves where the run was stopped.
+//! How a worker leaves after a stop.
 
 ghost use Rattle.tc_workers.specs.Worker.{DidLeave, DidPutBack, MayLeave};
 
@@ -18,7 +18,7 @@ fn put_back<Q: Waiters>(bench: &Bench<'_, Q>, desk: &mut Desk<Q>, package: Optio
     }
 }
 
-/// Puts back the package in hand, where there is one, and the one that is set aside.
+/// Puts back the current package, if there is one, and the one that is set aside.
 pub fn leave<Q: Waiters>(bench: &Bench<'_, Q>, desk: &mut Desk<Q>, hand: Option<Package>)
     requires { MayLeave bench.now hand desk.old }
     ensures { DidLeave hand desk.old desk.new }

@@ -1,23 +1,23 @@
-//! Workers: they run the threads of a guest over one hall, until each has ended.
+//! Workers: they run the threads of a guest through one hall, until each has ended.
 //!
-//! A worker has a desk and its ready threads. It takes a package, runs a block of it and settles it,
-//! again and again; it ends where it has seen every thread Done, or where the run is stopped.
+//! A worker with its desk (combiner) runs and settles packages until every thread is Done or the run is stopped.
+//! Promise: a run returns the threads and locks of a complete legal run of ordinary mutexes (`IsWholeRun`).
 //!
-//! - `specs/Worker.antt`: what holds of a worker at work. `specs/Search.antt`: what a search for a
-//!   package comes to, and why. `specs/StepWith.antt`: what is done with a package in hand, what a
-//!   worker does after its desk's answer, and the threads that it offers. `specs/Turns.antt`: its steps,
-//!   and its end. `specs/Crew.antt`: a crew of workers and their queues. `specs/Rows.antt`: rows of
-//!   seats. `specs/Run.antt`: what a whole run gives, and what its crew did.
-//! - `gate`: whom a worker tells how far it is. `worker`: workers. `work`: a worker's steps, in their
-//!   order. `find`, `step_with`, `leave`: how it finds a package, makes a step with one, and leaves.
-//!   `calls`: the calls of the hall, as workers make them. `step`, `finished`: what a step and the end
-//!   give.
-//! - `crew`: all workers beside one another. `bell`: where they wait for one another. `idling`: how one
-//!   pauses that finds nothing. `lines`: the queues of all locks, and their seats. `run`: whole runs.
+//! - `specs/Worker.antt`: the invariant of a worker at work. `specs/Search.antt`: the result of a
+//!   search for a package, and why. `specs/StepWith.antt`: what is done with a current package, what
+//!   a worker does after its desk's answer, and the threads that it offers. `specs/Turns.antt`: its
+//!   steps, and its end. `specs/Crew.antt`: a crew of workers and their queues. `specs/Rows.antt`:
+//!   rows of seats. `specs/Run.antt`: the result of a whole run, and what its crew did.
+//! - `gate`: observers of workers. `worker`: workers. `work`: a worker's steps, in their order.
+//!   `find`, `step_with`, `leave`: how it finds a package, makes a step with one, and leaves.
+//!   `calls`: the calls of the hall, as workers make them. `step`, `finished`: the results of a
+//!   step and of a worker.
+//! - `crew`: all workers in parallel. `bell`: their start barrier. `idling`: the back-off of one
+//!   that finds nothing. `lines`: the queues of all locks, and their seats. `run`: whole runs.
 //!
-//! The parts of a run are public, so that others may drive desks by hand, as tc_workers_tests does: a
-//! crew is hired by `hire` and runs by `together`, and `try_claim`, `wanted_lock`, `seal_block` and
-//! `next` are what a worker does between its calls of its desk.
+//! The parts of a run are public, so that others can drive desks by hand, as tc_workers_tests does:
+//! `hire` makes a crew and `together` runs it; `try_claim`, `wanted_lock`, `seal_block` and `next`
+//! are what a worker does between the calls of its desk.
 #![tactic(auto)]
 
 pub mod bell;

@@ -9,7 +9,7 @@ use std::alloc::{AllocError, Global};
 use tc_elf::image::Image;
 use tc_queue::{Queue, Waiters};
 
-/// A queue for each lock, in order of number, and for each worker a row with a seat of each queue.
+/// A queue for each lock, in order of number, and for each worker a row with a seat at each queue.
 #[derive(Drop)]
 pub struct Lines<Q: Waiters + Drop> {
     /// The queues, in order of lock.
@@ -30,7 +30,7 @@ pub fn empty_rows<S: Drop>(alloc: Global, workers: u32) -> Result<Vec<Vec<S>>, A
     Ok(rows)
 }
 
-/// Gives each row one seat more: the seat of its number.
+/// Appends one seat to each row: the seat of the row's number.
 pub fn deal<S: Drop>(rows: &mut Vec<Vec<S>>, mut seats: Vec<S>) -> Result<(), AllocError>
     requires { length seats.items ≡ length rows.old.items }
     ensures { OnOk result (AreDealtOut (λ row. row.items)

@@ -5,7 +5,7 @@ use tc_context::package::Package;
 /// What a worker does after a step.
 #[derive(Drop)]
 pub enum Step {
-    /// It goes on with the package in hand, or looks for one.
+    /// It goes on with its current package, or looks for one.
     On(Option<Package>),
     /// It has seen that each thread has ended.
     AllDone,

@@ -1,4 +1,4 @@
-//! A worker's step with a package in hand.
+//! A worker's step with a current package.
 
 ghost use Rattle.std.specs.Prelude.{◌≡◌, ◌<◌, Some, None, All, MatchOption, MatchResult};
 ghost use Rattle.tc_context.specs.View.{IsRoomier, WantIsGranted};
@@ -20,7 +20,7 @@ use tc_journal::block::End;
 use tc_queue::Waiters;
 use tc_ready::Ready;
 
-/// The lock that the package wants, where it is not granted to it.
+/// The lock that the package wants, if it is not granted to it.
 pub fn wanted_lock(package: &Package, image: &Image) -> Option<u32>
     requires { «package».now.image ≡ image.now }
     ensures { MatchOption result (WantIsGranted image.now «package».now)

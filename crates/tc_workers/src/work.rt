@@ -25,6 +25,7 @@ use tc_queue::Waiters;
 
 /// Begins a step: looks at STOP, and continues with the package in hand. Where the worker has none, or
 /// sees the stop, this is the whole step: it finds one, or leaves.
+/// Always inlined into `begin`, which calls it twice.
 #[inline(always)]
 fn begin_step<G: Gate, Q: Waiters>(
     bench: &Bench<'_, Q>,
@@ -110,7 +111,7 @@ fn finished<Q: Waiters>(worker: Worker<Q>, all_done: bool) -> Finished
 }
 
 /// Runs the worker until it has seen every thread Done, or the run is stopped. It may wait, for a
-/// lock, for a waiter, and for other workers to end what they have in hand.
+/// lock, for a waiter, and for other workers to finish their packages.
 pub fn work<R: Wait, G: Gate, Q: Waiters>(
     rt: &R,
     bench: &Bench<'_, Q>,

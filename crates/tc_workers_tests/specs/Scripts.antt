@@ -1,4 +1,4 @@
--- What holds of a desk that is driven by hand.
+-- What holds for a desk that is driven by hand.
 use Rattle.std.specs.Prelude.{◌≡◌, List, length, Option, Some, None}
 use Rattle.tc_journal.specs.declared.block.End.{End}
 use Rattle.tc_context.specs.View.{PackageView}
@@ -8,7 +8,7 @@ use Rattle.tc_queue.specs.Lines.{SeatView}
 use Rattle.tc_combiner.specs.View.{AreSeats, BenchView, DeskView}
 use Rattle.tc_workers.specs.Worker.{HasSealed, IsAtDesk}
 
--- a desk with this package in hand, where there is one, whose last block was sealed and ended so, where that is not settled
+-- a desk with this current package, if any, whose last block was sealed and ended so, if that is not settled
 abbrev pub IsPlaying : BenchView → DeskView → Option PackageView → Option End → Type 0
 IsPlaying b d hand None = IsAtDesk b hand d
 IsPlaying b d None (Some end) = ⊥

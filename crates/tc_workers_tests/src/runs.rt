@@ -1,4 +1,4 @@
-//! Whole runs, by one worker alone and by some beside one another.
+//! Whole runs, by one worker alone and by several in parallel.
 
 ghost use Rattle.std.specs.Prelude.{◌≤◌};
 ghost use Rattle.tc_isa.specs.declared.limits.TheConstants.{MAX_WORKERS};
@@ -27,7 +27,7 @@ const LONG_SLEEP: [u32; 5] = [0x0ff00513, 0x00300893, 0x00000073, 0x05d00893, 0x
 /// A sleep, again and again.
 const SLEEPS: [u32; 4] = [0x00000513, 0x00300893, 0x00000073, 0xffdff06f];
 
-/// A gate that counts the blocks that workers commit.
+/// An observer that counts the blocks that workers commit.
 #[derive(Drop)]
 struct Counting {
     committed: AtomicCell<u32>,
@@ -41,8 +41,8 @@ impl Gate for Counting {
     }
 }
 
-/// Checks what is so at the end of every run of two threads of COUNT, and that the workers committed
-/// its blocks.
+/// Checks what holds at the end of every run of two threads of COUNT, and that the workers
+/// committed its blocks.
 fn check_count<R: Abort>(rt: &R, closed: &Closed, committed: u32) {
     for package in closed.packages() {
         assert!(rt; package.status() == Status::Exited);
@@ -100,7 +100,7 @@ fn workers_beside_one_another_finish(rt: HostRuntime) -> Result<(), Fail> {
     Ok(())
 }
 
-/// No memory is refused after a long sleep: the thread goes on, and the run ends well.
+/// Memory does not run out after a long sleep: the thread goes on, and the run ends well.
 #[test]
 fn a_long_sleep_ends(rt: HostRuntime) -> Result<(), Fail> {
     let entries = [(0x00100000, 0), (0x00100000, 0)];
@@ -119,8 +119,8 @@ fn a_long_sleep_ends(rt: HostRuntime) -> Result<(), Fail> {
     Ok(())
 }
 
-/// Runs eight threads of SLEEPS by so many workers: a block of three turns, some of two, and one that
-/// finds no fuel.
+/// Runs eight threads of SLEEPS by so many workers: a block of three steps, some of two, and one
+/// that has no fuel.
 fn sleep_out<R: Abort + Threads + Wait + Sync>(
     rt: &R,
     alloc: Global,
@@ -144,7 +144,7 @@ fn sleep_out<R: Abort + Threads + Wait + Sync>(
     Ok(())
 }
 
-/// Workers take recesses where they find nothing but threads that have slept, and finish them.
+/// Workers back off (take recesses) while they find only threads that have slept, and finish them.
 #[test]
 fn workers_finish_threads_that_only_sleep(rt: HostRuntime) -> Result<(), Fail> {
     for workers in 1..9 {

@@ -1,6 +1,6 @@
-//! Scripts: desks that are driven by hand on one thread, in the order written, each on a worker of
-//! its own. The history of each is compared with its lines, and each lock is at home at the end, with
-//! these bytes in its guard, and broken or not, or is with a thread.
+//! Scripts: desks that are driven by hand on one thread, in the order written, each for a worker of
+//! its own. The history of each is compared with its lines. At the end each lock is free, with
+//! these bytes in its guard, and broken or not; or a thread has it.
 
 ghost use Rattle.std.specs.Prelude.{◌≡◌, ◌<◌, None, All, IfOk, OnOk};
 ghost use Rattle.tc_workers.specs.Crew.{AreAtWork};
@@ -41,14 +41,14 @@ use tc_workers::step::Step;
 use tc_workers::step_with::{next, seal_block, wanted_lock};
 use tc_workers::worker::Worker;
 
-/// What is done with a desk.
+/// An action with a desk.
 #[derive(Clone, Copy)]
 pub(crate) enum Action<'a> {
     /// Claims this thread, which is ready.
     Claim(u32),
-    /// Runs a block of the package in hand, and commits it.
+    /// Runs a block of the current package, and commits it.
     Run,
-    /// Settles the package in hand: it goes on, or the one that was set aside, of this thread.
+    /// Settles the current package: it goes on, or the one that was set aside, of this thread.
     GoesOn(u32),
     /// Settles it: a waiter is adopted, of this thread.
     Adopts(u32),
@@ -58,7 +58,7 @@ pub(crate) enum Action<'a> {
     Parks(u64),
     /// Settles it: its thread has ended.
     Ends,
-    /// Acquires the lock that the package in hand wants: it goes on, of this thread.
+    /// Acquires the lock that the current package wants: it goes on, of this thread.
     Takes(u32),
     /// Acquires it: the package is shipped.
     Queues,
@@ -66,18 +66,18 @@ pub(crate) enum Action<'a> {
     Back(u32),
     /// Reads the clock.
     Now(u64),
-    /// Moves the clock to a turn, wakes the sleeper that is due then, and claims it.
+    /// Advances the clock to a turn, wakes the sleeper that is due then, and claims it.
     Wake(u64, u32),
     /// What the last call put as ready, in order.
     Tells(&'a [u32]),
     /// Looks at a thread: the word of its place.
     Looks(u32, u64),
-    /// Reads a register of the thread in hand.
+    /// Reads a register of the current thread.
     Reads(u32, u32),
 }
 
-/// A desk, and what its worker has in hand: a package, and the end of the package's last block where
-/// that is not settled yet.
+/// A desk, and its worker's current package, with the end of the package's last block if that is
+/// not settled yet.
 #[derive(Drop)]
 pub(crate) struct Player {
     pub(crate) desk: Desk<Queue>,
@@ -118,7 +118,7 @@ fn claim_thread<R: Abort>(
     }
 }
 
-/// Runs a block of the package in hand, and commits it.
+/// Runs a block of the current package, and commits it.
 fn run_block<R: Abort>(rt: &R, bench: &Bench<'_, Queue>, player: &mut Player) -> Block
     requires { IsPlaying bench.now player.old.desk player.old.hand player.old.end }
     ensures { IsPlaying bench.now player.new.desk player.new.hand player.new.end }
@@ -139,7 +139,7 @@ fn run_block<R: Abort>(rt: &R, bench: &Bench<'_, Queue>, player: &mut Player) ->
     block
 }
 
-/// Takes the package in hand, with the end of its last block, which is to be settled.
+/// Takes the current package, with the end of its last block, which is to be settled.
 pub(crate) fn in_hand<R: Abort>(
     rt: &R,
     bench: &Bench<'_, Queue>,
@@ -179,7 +179,7 @@ fn go_on_as<R: Abort>(
     }
 }
 
-/// Settles the package in hand, and goes on with what comes.
+/// Settles the current package, and goes on with the result.
 fn settle_as<R: Abort + Wait>(
     rt: &R,
     bench: &Bench<'_, Queue>,
@@ -194,8 +194,8 @@ fn settle_as<R: Abort + Wait>(
     go_on_as(rt, bench, player, settled, action);
 }
 
-/// Acquires the lock that the package in hand wants since its last block, and goes on with what
-/// comes.
+/// Acquires the lock that the current package wants since its last block, and goes on with the
+/// result.
 fn acquire_as<R: Abort + Wait>(
     rt: &R,
     bench: &Bench<'_, Queue>,
@@ -254,7 +254,7 @@ fn look_at<R: Abort>(rt: &R, bench: &Bench<'_, Queue>, player: &mut Player, t: u
     assert_eq!(rt; bench.hall.look(player.desk.pass(), t), word);
 }
 
-/// Whether a register of the package in hand has this value.
+/// Whether a register of the current package has this value.
 fn reads(hand: &Option<Package>, register: u32, value: u32) -> bool {
     match (hand, Reg::new(register)) {
         (Some(package), Some(register)) => package.regs().get(register) == value,
@@ -262,7 +262,7 @@ fn reads(hand: &Option<Package>, register: u32, value: u32) -> bool {
     }
 }
 
-/// Does one action with a desk. A block that it runs joins the history.
+/// Does one action with a desk. A block that it runs is added to the history.
 fn act<R: Abort + Wait>(
     rt: &R,
     bench: &Bench<'_, Queue>,
@@ -295,12 +295,12 @@ fn act<R: Abort + Wait>(
     Ok(())
 }
 
-/// A desk, and what is done with it, in order.
+/// A desk, and the actions with it, in order.
 pub(crate) type Row<'a> = (usize, &'a [Action<'a>]);
 
-/// A script: a guest, with how many desks and with which batch limit it is run, what is done with
-/// which desk, the lines of its history, the bytes of each guard at the end, where its lock is at home
-/// then, and whether the locks at home are broken.
+/// A script: a guest, its number of desks and batch limit, the actions with each desk, the lines of
+/// its history, the bytes of the guards of locks that are free at the end, and whether these locks
+/// are broken.
 #[derive(Clone, Copy)]
 pub(crate) struct Script<'a> {
     pub(crate) code: &'a [u32],
@@ -400,7 +400,7 @@ pub(crate) fn follow<R: Abort + Wait>(
     Ok(())
 }
 
-/// Takes each lock that is at home, and compares the bytes of its guard, and whether it is broken.
+/// Takes each lock that is free, and compares the bytes of its guard, and whether it is broken.
 fn check_guards<R: Abort>(rt: &R, bench: &Bench<'_, Queue>, pass: &mut Pass, script: &Script<'_>)
     requires { IsAtHall bench.now pass.old }
 {
@@ -424,11 +424,11 @@ pub(crate) enum Ending<'a> {
     Compared,
     /// The first desk waits in vain, and the run is stopped meanwhile.
     InVain(Vain<'a>),
-    /// All desks but one are left to their workers, and the run is stopped behind so many blocks.
+    /// All desks but one are left to their workers, and the run is stopped after so many blocks.
     Behind(u32),
 }
 
-/// Compares what came of a script.
+/// Compares the result of a script.
 fn compare<R: Abort>(
     rt: &R,
     alloc: Global,
@@ -448,7 +448,7 @@ fn compare<R: Abort>(
     Ok(())
 }
 
-/// Seats a player at each worker's place, plays the script, and checks what came of it.
+/// Gives each worker a player, plays the script, and checks the result.
 fn perform<R: Abort + Threads + Wait + Sync>(
     rt: &R,
     alloc: Global,
@@ -552,7 +552,7 @@ block 5 thread 1 turns 2 held - kind on worker 1 pc 00100028 end exit
     broken: false,
 };
 
-/// The same, where each desk is asked to acquire the lock, and not to settle the block that wants it.
+/// The same, but each desk is asked to acquire the lock, and not to settle the block that wants it.
 const ACQUIRED: Script<'static> = Script {
     steps: &[
         (0, &[Claim(0), Run, Takes(0), Tells(&[]), Run]),
@@ -689,8 +689,8 @@ block 6 thread 1 turns 2 held - kind on worker 1 pc 00100058 end exit
     broken: false,
 };
 
-/// A thread ends inside two sections: the waiter of the one lock is granted it, the other goes home,
-/// and both are broken.
+/// A thread ends inside two sections: the waiter of the one lock is granted it, the other lock
+/// becomes free, and both are broken.
 const END: Script<'static> = Script {
     code: &[
         // Thread 0: locks 0 and 1, and then no instruction.
@@ -721,7 +721,7 @@ block 5 thread 1 turns 2 held - kind on worker 1 pc 00100038 end exit
     broken: true,
 };
 
-/// The same up to that end: lock 1 is at home and broken, and lock 0 is with its waiter.
+/// The same up to that end: lock 1 is free and broken, and its waiter has lock 0.
 const AT_END: Script<'static> = Script {
     steps: &[
         (0, &[Claim(0), Run, GoesOn(0), Run, GoesOn(0), Run]),
@@ -738,7 +738,7 @@ block 3 thread 1 turns 2 held - kind start worker 1 pc 0010001c end wants 0
     ..END
 };
 
-/// Three locks in one another, and a shipment at each.
+/// Three nested locks, and a package is shipped at each.
 const THREE_DEEP: Script<'static> = Script {
     code: &[
         // Thread 0: lock 2.

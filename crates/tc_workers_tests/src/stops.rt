@@ -1,6 +1,6 @@
-//! Stops: desks that wait in vain, for each of the three that a desk waits for, while the run is
-//! stopped; and crews that are stopped in the middle of a run, behind each of its blocks. Each ends,
-//! and all that was out is back.
+//! Stops: desks that wait in vain, for each of the three things that a desk waits for, while the
+//! run is stopped; and crews that are stopped in the middle of a run, after each of its blocks.
+//! Each ends, and all that was out is put back.
 
 ghost use Rattle.std.specs.Prelude.{◌≡◌, ◌<◌, All, map};
 ghost use Rattle.tc_hall.specs.Rule.{threads};
@@ -27,19 +27,19 @@ use tc_workers::finished::Finished;
 use tc_workers::worker::Worker;
 use tc_workers::{Gate, Point};
 
-/// What is kept from a desk, so that it waits in vain.
+/// What is withheld from a desk, so that it waits in vain.
 #[derive(Clone, Copy)]
 pub(crate) enum Kept {
     /// The state of this lock is out.
     Lock(u32),
     /// The package of this thread, which waited for this lock, is out.
     Waiter(u32, u32),
-    /// A turn of this thread has entered the line of lock 0, and is never linked.
+    /// A turn of this thread has entered the queue of lock 0, and is never linked.
     Link(u32),
 }
 
-/// What a desk waits for in vain, and what is so at the end: the word of each thread's place, and
-/// whether each lock is home.
+/// What a desk waits for in vain, and what holds at the end: the word of each thread's place, and
+/// whether each lock is free.
 #[derive(Clone, Copy)]
 pub(crate) struct Vain<'a> {
     kept: Kept,
@@ -47,7 +47,7 @@ pub(crate) struct Vain<'a> {
     home: &'a [bool],
 }
 
-/// Enters the line of the first lock, behind another turn, and leaves it at that.
+/// Enters the queue of the first lock, behind another turn, and does not link.
 fn enter_line<R: Abort, Q: Waiters>(
     rt: &R,
     bench: &Bench<'_, Q>,
@@ -67,7 +67,7 @@ fn enter_line<R: Abort, Q: Waiters>(
     }
 }
 
-/// Keeps from the desks what one of them will wait for.
+/// Withholds from the desks what one of them will wait for.
 fn keep<R: Abort, Q: Waiters>(
     rt: &R,
     bench: &Bench<'_, Q>,
@@ -113,7 +113,7 @@ pub(crate) fn keeper_of<R: Abort>(
     desk.finish()
 }
 
-/// Settles the package in hand. The run is stopped, and the wait for what comes next ends.
+/// Settles the current package. The run is stopped, and the wait for what comes next ends.
 fn settle_in_vain<R: Abort + Wait>(rt: &R, bench: &Bench<'_, Queue>, player: &mut Player)
     requires { IsPlaying bench.now player.old.desk player.old.hand player.old.end }
 {
@@ -137,7 +137,7 @@ fn check_words<R: Abort>(rt: &R, bench: &Bench<'_, Queue>, pass: &mut Pass, word
     }
 }
 
-/// Compares which locks are home.
+/// Compares which locks are free.
 fn check_home<R: Abort>(rt: &R, bench: &Bench<'_, Queue>, pass: &mut Pass, home: &[bool])
     requires { IsAtHall bench.now pass.old }
 {
@@ -148,7 +148,7 @@ fn check_home<R: Abort>(rt: &R, bench: &Bench<'_, Queue>, pass: &mut Pass, home:
     }
 }
 
-/// Stops the run, while the first desk waits for what the last one keeps.
+/// Stops the run while the first desk waits for what the last one withholds.
 pub(crate) fn wait_in_vain<R: Abort + Wait>(
     rt: &R,
     bench: &Bench<'_, Queue>,
@@ -183,7 +183,7 @@ impl Stopper<'_> {
     }
 }
 
-/// A gate that stops the run behind so many blocks.
+/// An observer that stops the run after so many blocks.
 #[derive(Drop)]
 struct Stopping<'a, R: Wait + Sync> {
     rt: &'a R,
@@ -203,7 +203,7 @@ impl<R: Wait + Sync> Gate for Stopping<'_, R> {
     }
 }
 
-/// The pass of a worker who has not begun.
+/// The pass of a worker that has not begun.
 fn spare<R: Abort>(rt: &R, bench: &Bench<'_, Queue>, crew: &mut Vec<Worker<Queue>>) -> Pass
     requires { AreAtWork bench.now crew.old.items }
     ensures own { IsAtHall bench.now result }
@@ -230,7 +230,7 @@ fn check_back<R: Abort>(rt: &R, bench: &Bench<'_, Queue>, pass: &mut Pass)
     }
 }
 
-/// Lets all workers but one run beside one another, and stops them behind so many blocks.
+/// Runs all workers but one in parallel, and stops them after so many blocks.
 pub(crate) fn stop_behind<R: Abort + Threads + Wait + Sync>(
     rt: &R,
     bench: &Bench<'_, Queue>,
@@ -312,8 +312,8 @@ const ENDED: Script<'static> = Script {
     ..WANTS
 };
 
-/// Each of the three waits of a desk ends where the run is stopped: all packages that the desk had
-/// are ready again, or done where their thread has ended, and each lock that it released is home.
+/// Each of the three waits of a desk ends when the run is stopped: all packages that the desk had
+/// are ready again, or done if their thread has ended, and each lock that it released is free.
 #[test]
 fn waits_in_vain_end(rt: HostRuntime) -> Result<(), Fail> {
     let cases = [
@@ -353,7 +353,7 @@ const ENDLESS: Script<'static> = Script {
     ..WANTS
 };
 
-/// A worker alone, and crews, are stopped behind each of the first blocks of a run.
+/// A worker alone, and crews, are stopped after each of the first blocks of a run.
 #[test]
 fn a_stop_ends_a_run_behind_each_block(rt: HostRuntime) -> Result<(), Fail> {
     for (workers, blocks) in [

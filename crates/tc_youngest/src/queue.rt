@@ -9,7 +9,7 @@ use std::sync::{Mutex, Wait};
 use tc_queue::{Arrival, Departure, Entered, Leave, QueueCall as Call, Turn, Waiters};
 use tc_seats::{Made, NotedSeat, QueueMaker, Seats};
 
-/// The order, for runs: a turn may be passed over as often as the bound says, and the calls of its
+/// The order, for runs: a turn is passed over at most as often as the bound says. The calls of its
 /// queues wait with the handle.
 #[derive(Drop)]
 pub struct Youngest<'a, R: Wait> {

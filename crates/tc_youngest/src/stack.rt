@@ -19,8 +19,8 @@ pub struct Stacked {
     pub left: u32,
 }
 
-/// The waiting turns, the oldest first, and how many threads are there: who has the lock, who waits,
-/// and who is about to.
+/// The waiting turns, the oldest first, and how many threads are there: the one that has the lock,
+/// those that wait, and those about to wait.
 #[derive(Drop)]
 pub struct Stack {
     bound: u32,
@@ -40,7 +40,7 @@ impl Model for Stack {
 }
 
 impl Stack {
-    /// Nobody is there. A turn may be passed over as often as the bound says.
+    /// An empty stack. A turn may be passed over as often as the bound says.
     pub(crate) fn new(alloc: Global, bound: u32) -> Result<Stack, AllocError>
         ensures { IfOk result (λ s. s ≡ record { bound = bound; present = 0; waiting = [] }) }
     {
@@ -52,7 +52,7 @@ impl Stack {
         })
     }
 
-    /// Counts one more who is there. Whether it is the first, who has the lock.
+    /// Counts one more thread. It answers whether that is the first, which has the lock.
     pub(crate) fn enter(&mut self) -> bool
         ensures first { result ≡ (self.old.present == 0) }
         ensures waiting { self.new.waiting ≡ self.old.waiting }
@@ -74,8 +74,8 @@ impl Stack {
         }
     }
 
-    /// Serves the oldest where it may not be passed over again, else the youngest. Who had the lock
-    /// is there no more.
+    /// Serves the oldest turn if it may not be passed over again, else the youngest. The thread
+    /// that had the lock is gone.
     pub(crate) fn next(&mut self) -> Option<Turn>
         ensures order { (result, self.new.waiting) ≡ served self.old.waiting }
         ensures bound { WereSpared self.old.waiting self.new.waiting }
@@ -92,7 +92,7 @@ impl Stack {
         Some(youngest.turn)
     }
 
-    /// Leaves, where nobody else is there. Whether it left.
+    /// Leaves, if nobody else is there, and says whether it left.
     pub(crate) fn leave(&mut self) -> bool
         ensures alone { result ≡ (self.old.present == 1) }
         ensures waiting { self.new.waiting ≡ self.old.waiting }
@@ -105,7 +105,7 @@ impl Stack {
     }
 }
 
-/// Each was passed over once more.
+/// Counts a bypass for each turn.
 fn pass_over(waiting: &mut Vec<Stacked>)
     ensures passed { waiting.new.items ≡ map passed_over waiting.old.items }
     ensures capacity { vec_capacity waiting.new ≡ vec_capacity waiting.old }

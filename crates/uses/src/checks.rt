@@ -1,4 +1,4 @@
-//! A history that one's own program made is checked.
+//! Checks a history that your own program made.
 
 ghost use Rattle.std.specs.Prelude.{◌≡◌, Ok, Some, None};
 ghost use Rattle.tc_journal.specs.History.{IsInOrder};
@@ -10,7 +10,7 @@ use tc_elf::image::Image;
 use tc_journal::block::Block;
 use tc_replay::{Rejected, Terms, check};
 
-/// Gives the blocks their stamps: each has the number of its place.
+/// Gives each block its index as its stamp.
 pub fn stamp(blocks: &mut [Block])
     ensures { IsInOrder blocks.new }
 {
@@ -19,8 +19,8 @@ pub fn stamp(blocks: &mut [Block])
     }
 }
 
-/// Gives the blocks their stamps, and says what is the first thing that is wrong with the history:
-/// None exactly where nothing is.
+/// Gives the blocks their stamps, and returns the first thing that is wrong with the history; None
+/// if and only if nothing is.
 pub fn check_own(
     alloc: Global,
     image: &Image,

@@ -1,11 +1,11 @@
-//! Callers of the libraries, as a program of one's own would call them.
+//! Example callers of the libraries, as your own program would call them.
 //!
-//! Each is small, and has a contract that follows from those of what it calls: read them before you
-//! write your own. The READMEs of tc_queue, tc_replay and tc_workers show one of them each.
+//! Each is small, and its contract follows from those of its callees: read them before you write
+//! your own. The READMEs of tc_queue, tc_replay and tc_workers show one each.
 //!
 //! - `queues`: turns enter an order of waiters by hand, and the calls are counted.
-//! - `checks`: a history that one's own program made is checked.
-//! - `runs`: a guest is run, and its history and its profile are read as values.
+//! - `checks`: checks a history that your own program made.
+//! - `runs`: runs a guest, and reads its history and its profile as values.
 #![tactic(auto)]
 
 pub mod checks;

@@ -6,8 +6,8 @@ ghost use Rattle.tc_queue.specs.Words.{IsTurn};
 
 use tc_queue::{Arrival, Turn, Waiters};
 
-/// All of these turns enter with one seat, and each of them stands behind the one that was there.
-/// Answers how many calls that took: one for each turn, and one more for each that found somebody.
+/// All of these turns enter with one seat, each behind the one that was there. It returns the
+/// number of calls: one for each turn, and one more for each that found somebody.
 pub fn enter_all<Q: Waiters>(queue: &Q, seat: &mut Q::Seat, turns: &[Turn]) -> usize
     requires seat { IsSeatOf (Q.queue queue.now) (Q.seen seat.old) }
     requires turns { All (λ u. IsTurn (Q.queue queue.now).threads u) turns.now }
@@ -22,7 +22,7 @@ pub fn enter_all<Q: Waiters>(queue: &Q, seat: &mut Q::Seat, turns: &[Turn]) -> u
     calls
 }
 
-/// The turn enters, and is linked where somebody is there. Answers how many calls that took.
+/// The turn enters, and is linked if somebody is there. It returns the number of calls.
 fn enter_one<Q: Waiters>(queue: &Q, seat: &mut Q::Seat, turn: Turn) -> usize
     requires seat { IsSeatOf (Q.queue queue.now) (Q.seen seat.old) }
     requires turn { IsTurn (Q.queue queue.now).threads turn }

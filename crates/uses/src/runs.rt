@@ -1,4 +1,4 @@
-//! A guest is run, and its history and its profile are read as values.
+//! Runs a guest, and reads its history and its profile as values.
 
 ghost use Rattle.std.specs.Prelude.{◌≡◌, ◌<◌, IfOk, List, length};
 ghost use Rattle.tc_journal.specs.declared.block.Block.{Block as AnyBlock};
@@ -16,8 +16,8 @@ use tc_main::own::run_values;
 use tc_main::replay::profile_of;
 use tc_profile::LockProfile;
 
-/// Runs the guest to the ends of its threads, and says how many blocks that took, and the numbers of a
-/// lock: those of the history of a legal run.
+/// Runs the guest to the ends of its threads, and returns how many blocks that took, and the
+/// numbers of a lock: those of the history of a legal run.
 pub fn run_and_read<R: Threads + Wait + Sync>(
     rt: &R,
     alloc: Global,

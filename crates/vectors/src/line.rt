@@ -26,7 +26,7 @@ pub static FILE: [u8; 116] = [
     0xb3, 0x72, 0x73, 0x02,
 ];
 
-/// A pair of numbers. It prints as a line of the table, in the way that `act` computes it.
+/// A pair of numbers. It prints as a line of the table, as `act` computes it.
 #[derive(Clone, Copy)]
 pub struct Line<'a> {
     /// The image of `FILE`.
@@ -35,7 +35,7 @@ pub struct Line<'a> {
     pub x7: u32,
 }
 
-/// x5 after the next instruction, None where it does something else.
+/// x5 after the next instruction; None if it does something else.
 fn x5_after(image: &Image, regs: &Regs) -> Option<u32> {
     match &act(image, Held::none(), regs, 0) {
         Act::Next { regs, put: None } => Some(regs.get(Reg::of(5))),

@@ -1,8 +1,8 @@
-//! Compares what the instructions are and do with what other tools say: `decode` and `encode` of 1,778
-//! words, and the multiplications and divisions of 220 pairs of numbers.
+//! Compares the instructions with other tools: `decode` and `encode` of 1,778 words, and the
+//! multiplications and divisions of 220 pairs of numbers.
 //!
-//! Two tables come on standard input, one behind the other, as `stdin` of this folder holds them: each a
-//! line of headings, and behind it a line for each word or pair. One line is printed for each word and
+//! Two tables come on standard input, one after the other, from `stdin` of this folder: each has a
+//! line of headings, and then a line for each word or pair. One line is printed for each word and
 //! each pair that differs, and at the end how many of either agree.
 //!
 //! - `words`: the table of words, whose lines `row` prints as `decode` has them.

@@ -1,11 +1,11 @@
 //! The table of pairs.
 //!
-//! It has a line for each pair: x6, x7, and what each of the eight operations on them gives, in digits
-//! of base 16. The values come from outside of this repository: the emulator QEMU (7.2, riscv32) ran
-//! the instructions, and where C defines the operation, a program that gcc (12.2) built for the
-//! host computed the same. The first four pairs are the corners of the operations, then come all
-//! pairs of ten numbers at the ends of their ranges, 0 as a divisor and the least number by -1
-//! among them, and then numbers of random lengths and signs.
+//! It has a line for each pair: x6, x7, and the result of each of the eight operations on them, in
+//! hexadecimal digits. The values come from outside of this repository: the emulator QEMU (7.2,
+//! riscv32) ran the instructions, and where C defines the operation, a program that gcc (12.2)
+//! built for the host computed the same. The first four pairs are the corner cases of the
+//! operations; then come all pairs of ten numbers at the ends of their ranges, among them 0 as a
+//! divisor and the least number by -1; and then numbers of random lengths and signs.
 
 use crate::line::Line;
 use std::alloc::Global;
@@ -24,7 +24,7 @@ fn pair_of(line: &str) -> Option<(u32, u32)> {
     Some((x6, x7))
 }
 
-/// What stands in the place of a table's line by `act`.
+/// The line that `act` gives in the place of a line of the table.
 pub fn said(alloc: Global, image: &Option<Image>, line: &str) -> io::Result<String> {
     match (image, pair_of(line)) {
         (Some(image), Some((x6, x7))) => {

@@ -5,8 +5,8 @@ use tc_isa::decode::decode;
 use tc_isa::instr::{Cond, ImmOp, Instr, LoadKind, RegOp, StoreKind};
 use tc_isa::reg::Reg;
 
-/// A word. It prints as a line of the table, in the way that `decode` reads it: the word, the name
-/// of the instruction, the numbers of its registers and its immediate, where it has them.
+/// A word. It prints as a line of the table, as `decode` reads it: the word, the name of the
+/// instruction, the numbers of its registers and its immediate, if it has them.
 #[derive(Clone, Copy, Debug)]
 pub struct Row {
     pub word: u32,

@@ -7,7 +7,7 @@
 //! `undefined`, though a disassembler may know it from an extension, as 0a7342b3 (`min`). The words
 //! are some of every instruction, each with single bits turned, and random ones.
 //!
-//! A word agrees where `decode` says of it what the table's line says, and `encode` gives it back.
+//! A word agrees if `decode` says of it what the table's line says, and `encode` gives it back.
 
 use crate::row::Row;
 use std::alloc::Global;
@@ -18,7 +18,7 @@ use tc_isa::encode::encode;
 /// The headings.
 pub const HEADINGS: &str = "word,row,rd,rs1,rs2,imm";
 
-/// The row of the word at the head of a line, which stands in digits of base 16.
+/// The row of the word at the start of a line, which is in hexadecimal digits.
 fn row_of(line: &str) -> Option<Row> {
     let (digits, _) = line.split_once(',')?;
     let word = u32::from_str_radix(digits, 16).ok()?;
@@ -33,7 +33,7 @@ fn comes_back(word: u32) -> bool {
     }
 }
 
-/// What stands in the place of a table's line by `decode`, where `encode` gives its word back.
+/// The line that `decode` gives in the place of a line of the table, if `encode` gives its word back.
 pub fn said(alloc: Global, line: &str) -> io::Result<String> {
     match row_of(line) {
         Some(row) if comes_back(row.word) => Ok(format!(in alloc; "{row}")?),

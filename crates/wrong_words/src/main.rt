@@ -1,12 +1,12 @@
-//! The program `tclocks` once more, for the sake of its stored run: the words have no form, since a run
-//! has a worker at least. It writes the usage line and ends with status 1.
+//! The program `tclocks` once more, for its stored run with wrong arguments: a run has at least one
+//! worker. It writes the usage line and ends with status 1.
 #![tactic(auto)]
 
 use std::process::ExitCode;
 use tc_io::{StdSink, StdSource};
 use tc_main::program::run_program;
 
-/// Does what the words of the command line ask for.
+/// Does what the command-line arguments ask for.
 fn main(rt: HostRuntime) -> ExitCode {
     run_program(
         &rt,

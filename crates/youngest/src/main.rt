@@ -1,8 +1,8 @@
-//! The program `youngest`: does what `tclocks run W F B` does, with the waiters of tc_youngest in place
-//! of those in the order of entry. It is an example of a program with an order of one's own.
+//! The program `youngest`: as `tclocks run W F B`, but with the waiters of tc_youngest instead of
+//! those in the order of entry. It is an example of a program with its own order of waiters.
 //!
-//! Its words are `W F B`: the number of workers, the fuel of each thread and the batch limit. Words
-//! that are not all UTF-8 are answered as no words, which ask for nothing.
+//! Its arguments are `W F B`: the number of workers, the fuel of each thread and the batch limit.
+//! If they are not all UTF-8, they count as none, which asks for nothing.
 #![tactic(auto)]
 
 ghost use Rattle.std.specs.Prelude.{◌≡◌, ℕ, ◌⊎◌, List, codes};
@@ -31,10 +31,10 @@ use tc_youngest::Youngest;
 /// How often a waiter may be passed over.
 const BOUND: u32 = 8;
 
-/// What the program can be asked for.
+/// The usage line.
 const USAGE: &str = "usage: youngest W F B\n";
 
-/// Says what the program can be asked for.
+/// Writes the usage line.
 fn answer_usage<K: Sink>(sink: &mut K) -> Status
     ensures status { result ≡ Status.Usage }
     ensures line { Writes (K.stream sink.old) (K.stream sink.new) (codes "usage: youngest W F B\n") }
@@ -43,7 +43,7 @@ fn answer_usage<K: Sink>(sink: &mut K) -> Status
     Status::Usage
 }
 
-/// Does what the words ask for: reads a guest's file, runs the guest, and writes the report.
+/// Does what the arguments ask for: reads a guest's file, runs the guest, and writes the report.
 fn youngest<R: Threads + Wait + Sync, S: Source, K: Sink>(
     rt: &R,
     alloc: Global,
@@ -61,7 +61,7 @@ fn youngest<R: Threads + Wait + Sync, S: Source, K: Sink>(
     ensures ends { (o : Chosen) → words.now ≡ option_words o
         → Ends (run_words o) (S.stream source.old) (S.stream source.new)
         (K.stream sink.old) (K.stream sink.new) result }
-    // Without them nothing was read, and the usage line was written, or a front of it.
+    // Without them nothing was read, and the usage line was written, or a prefix of it.
     ensures usage { ((o : Chosen) → words.now ≡ option_words o → ⊥)
         → (result ≡ Status.Usage) × (S.stream source.new ≡ S.stream source.old)
         × Writes (K.stream sink.old) (K.stream sink.new) (codes "usage: youngest W F B\n") }
@@ -73,7 +73,7 @@ fn youngest<R: Threads + Wait + Sync, S: Source, K: Sink>(
     run_guest(rt, alloc, options, &maker, source, sink, &Open)
 }
 
-/// Does what the words of the command line ask for.
+/// Does what the command-line arguments ask for.
 fn main(rt: HostRuntime) -> ExitCode {
     let alloc = rt.alloc();
     let mut source = StdSource::new(rt.stdin());

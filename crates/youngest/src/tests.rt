@@ -16,8 +16,8 @@ use tc_main::run_guest;
 use tc_main::status::Status;
 use tc_youngest::Youngest;
 
-/// How often a held worker looks whether it may go on. Where workers do not come as they should, a
-/// worker comes to this limit, and the test fails there.
+/// How often a held worker checks whether it may go on. If workers do not come as expected, one
+/// reaches this limit, and the test fails there.
 const LOOKS: u32 = 1_000_000;
 
 /// A thread adds 1 to the word of lock 0 inside a section of seven turns, and exits.
@@ -36,7 +36,7 @@ const ONE: [u32; 12] = [
     0x0000_0073,
 ];
 
-/// What the gate was told: which thread each of three workers claimed first, which of them shipped
+/// What the observer saw: which thread each of three workers claimed first, which of them shipped
 /// one, and whether lock 0 was released.
 #[derive(Clone, Copy)]
 struct Told {
@@ -105,7 +105,7 @@ fn second_section(report: &str) -> &str {
 }
 
 /// Three workers run three threads of one section each. Worker 0 releases the lock while worker 1's
-/// thread waits for it, and behind that worker 2's. Answers by which worker the thread was shipped
+/// thread waits for it, and after that worker 2's. It returns the worker that shipped the thread
 /// whose section worker 0 adopts next.
 fn served_first<R: Abort + Threads + Wait + Sync>(
     rt: &R,
@@ -153,7 +153,7 @@ fn served_first<R: Abort + Threads + Wait + Sync>(
     Ok(0)
 }
 
-/// The youngest waiter is served first, but only where the bound lets the older one be passed over.
+/// The youngest waiter is served first, if and only if the bound lets the older one be passed over.
 #[test]
 fn the_youngest_waiter_is_served_first_within_the_bound(rt: HostRuntime) -> Result<(), Fail> {
     for (bound, worker) in [(0, 1), (1, 2)] {

@@ -37,7 +37,7 @@ def words(bench: str, doc: str | None, known: Iterable[str], usual: str, *first:
     parser = tool.words(f"bench {bench}", doc, *first)
     parser.add_argument("guests", metavar="GUEST", nargs="*", help=f"{', '.join(known)}; {usual} when left out")
     parser.add_argument("-p", dest="program", metavar="PROGRAM", type=Path,
-                        help="the program that is measured (the one that ./tclocks-build has built)")
+                        help="the program to measure (the one that ./tclocks-build has built)")
     parser.add_argument("--results", metavar="FILE", help="keep the raw results there; bench table prints them")
     for name, (given, says, *least) in numbers.items():
         low, high = limits.RUN.get(name, (1, 9999))

@@ -73,7 +73,7 @@ def main(words: list[str]) -> int:
     parser = process.words(
         "replay", __doc__, guests.GUESTS, ", ".join(USUAL), batch=(0, "batch limit"),
         fuel=([limits.RUN["fuel"][1]], "of each thread; of several numbers each gets a line"),
-        runs=(1, "runs of each, of which the least numbers are told"))
+        runs=(1, "runs of each, of which the least numbers are printed"))
     asked = process.parsed(parser, words, guests.GUESTS)
     lines = [(name, fuel) for name in asked.guests or USUAL for fuel in asked.fuel]
     to = table.Table("replay", asked, COLUMNS)

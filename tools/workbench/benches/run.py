@@ -81,9 +81,9 @@ def main(words: list[str]) -> int:
     parser = process.words(
         "run", __doc__, guests.GUESTS, "all", workers=([1], "1 to 8; of several numbers, as 1,4, each gets a line"),
         batch=(0, "batch limit"), fuel=(limits.RUN["fuel"][1], "of each thread"),
-        runs=(1, "runs, of which the one that took the least seconds is told"))
+        runs=(1, "runs, of which the fastest is printed"))
     parser.add_argument("-o", dest="folder", metavar="FOLDER", type=Path,
-                        help="only write the guests' files into a folder, which is made where it is not there")
+                        help="only write the guests' files into a folder, which is made if it does not exist")
     asked = process.parsed(parser, words, guests.GUESTS)
     names = asked.guests or list(guests.GUESTS)
     if asked.folder is not None:

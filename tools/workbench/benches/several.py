@@ -1,17 +1,17 @@
-"""Runs guests by several numbers of workers in turn, and prints a table of what more workers give. It is no test: it
-asserts no time.
+"""Runs guests by several numbers of workers in turn, and prints a table of the speed-up by more workers. It is no
+test: it asserts no time.
 
-Seconds are those of the whole process with its report, and processor seconds those that it was running on all
-processors together; of each the least of some runs is told, or with -m the median. Two columns are those of the most
-workers in those of the fewest. Three columns stay empty where there is no C compiler. One is what it costs that the most workers share one
-clock, in processor seconds: what they take more than one for as many additions to one word as the run has blocks. The
-second tells how free the processors are: it is the seconds of a loop of registers alone by as many threads as
-the most workers, in those by as many as the fewest, and 1.00 where each thread has a core for itself. The third tells
-what the first of the ratios could be here: it is that of a program that does nothing but such a loop, as long as the
-guest, whose turns its threads share. With -q only rounds count before and behind which the loop's number is small; the
-last column tells how many did, of how many. Where processors change their speed from run to run, -m is fairer: the least
-of one worker is that of one fast processor, and several workers seldom have as many of them at once. A processor may be
-faster while others are idle; with -e all are busy in each run, those that its workers leave idle with loops.
+Seconds are the wall-clock time of the whole process with its report, processor seconds its time on all processors
+together. The least of some runs is printed, or with -m the median. Two columns are ratios: the time of the most
+workers divided by that of the fewest. Three columns stay empty if there is no C compiler. The first is the cost of
+sharing the sequence counter, in processor seconds: what the most workers take more than one for as many atomic
+additions to one word as the run has blocks. The second says how free the processors are: the seconds of a loop on
+registers by as many threads as the most workers, divided by those of the fewest; 1.00 if each thread has a core for
+itself. The third says what the first ratio could be here: that of a program that only runs such a loop, as long as
+the guest, divided among its threads. With -q only rounds count before and after which the loop's number is small; the
+last column says how many did, of how many. If processors change their speed from run to run, -m is fairer: the least
+time of one worker is that of one fast processor, and several workers seldom have as many of them at once. A processor
+may be faster while others are idle; with -e all are busy in each run: loops keep those busy that its workers leave idle.
 """
 from __future__ import annotations
 
@@ -132,11 +132,11 @@ def main(words: list[str]) -> int:
         "several", __doc__, guests.GUESTS, ", ".join(USUAL), workers=([1, 2, 4], "1 to 8 each"),
         batch=(8, "batch limit"), fuel=(limits.RUN["fuel"][1], "of each thread"), runs=(9, "of each"))
     parser.add_argument("-q", dest="quiet", metavar="NUMBER", type=float,
-                        help="count only rounds before and behind which the number of the column Loop is at most this, as 1.1")
+                        help="count only rounds before and after which the number of the column Loop is at most this, as 1.1")
     parser.add_argument("-e", dest="even", action="store_true",
                         help="keep the processors busy that a run leaves idle, as many as the most workers take")
     parser.add_argument("-m", dest="told", action="store_const", const=statistics.median, default=min,
-                        help="tell the median of the runs in the place of the least")
+                        help="print the median of the runs instead of the least")
     asked = process.parsed(parser, words, guests.GUESTS)
     asked.workers = sorted({*asked.workers})
     return measure_all(asked)

@@ -179,7 +179,7 @@ PARTS = {"tools": check_tools, "types": check_types}
 def main(words: list[str]) -> int | None:
     facts = json.loads((places.GUESTS / "facts.json").read_text())
     parser = tool.words("check", __doc__)
-    parser.add_argument("names", metavar="tools | types | GUEST", nargs="*", help="these alone")
+    parser.add_argument("names", metavar="tools | types | GUEST", nargs="*", help="only these")
     names = parser.parse_args(words).names or ["tools", *facts]
     unknown = [name for name in names if name not in (*facts, *PARTS)]
     if unknown:

@@ -1,7 +1,7 @@
-"""Print what must be believed: the definitions, types and constants on which the contract of the top call rests.
+"""Prints the trusted definitions: the definitions, types and constants on which the contract of the top call depends.
 
-It follows the imports of the specs, from the clauses of `tclocks` on. Of a file of specs it prints the words that
-other files or the contract cite; what else they need stands beside them in the same file."""
+It follows the imports of the specs, beginning with the contract of `tclocks`. Of each spec file it prints what other
+files or the contract cite; what else these definitions need is beside them in the same file."""
 from __future__ import annotations
 
 import re

@@ -1,10 +1,10 @@
-"""Runs tclocks many times and in bad surroundings, and looks at what it leaves behind.
+"""Runs tclocks many times and under faults of the host, and checks what it leaves behind.
 
-1000 runs in a row where RUNS is left out; the largest guest on 8 workers; a reader that ends in the
+1000 consecutive runs unless RUNS is given; the largest guest on 8 workers; a reader that ends in the
 middle, a full disk, closed standard streams, little memory, and a signal in the middle of a run; and
-a history that is given back to a full disk, in little memory, and behind more bytes than may stand there.
+a replay to a full disk, in little memory, and after more bytes than are allowed.
 Each must end as docs/GUIDE.md says, and leave no process and no file. The peak memory of the last
-runs in a row must be that of the first ones, and that of the largest guest no more than
+of these runs must be that of the first ones, and that of the largest guest no more than
 bench/README.md says.
 
 It needs Linux and the built program, and takes about a minute.

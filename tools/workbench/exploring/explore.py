@@ -1,12 +1,12 @@
-"""Tells how a guest can end: how the threads end, their x10, the locks' sections, broken flags and
+"""Shows how a guest can end: how the threads end, their x10, the locks' sections, broken flags and
 guarded words. Faults come first.
 
 With --all it searches every interleaving, and prints each outcome with how many blocks a shortest
-history of it has. --reach RULE asks for a history to an end of which a rule holds, and --never RULE
-whether there is none. docs/COURSE.md tells of rules, and of why nothing is missed.
+history of it has. --reach RULE searches for a history whose end satisfies a rule, and --never RULE checks
+that there is none. docs/COURSE.md explains rules, and why nothing is missed.
 
-Else it looks at samples: N runs by the program, with several numbers of workers and batch limits, where
-it is built, and N by model.py, in interleavings that are drawn from seeds.
+Otherwise it takes samples: N runs by the program, if it is built, with several numbers of workers and batch
+limits, and N by model.py, in interleavings that are drawn from seeds.
 """
 from __future__ import annotations
 
@@ -277,11 +277,11 @@ def parsed(words: list[str]) -> tuple[Namespace, Any]:
     parser = tool.words("explore", __doc__, "guest")
     parser.add_argument("--all", action="store_true", help="every interleaving, and each outcome")
     parser.add_argument("--reach", metavar="RULE", action="append", default=[],
-                        help="a history to an end of which RULE holds, as 'lock 0 word 2 == 1'")
+                        help="a history whose end satisfies RULE, as 'lock 0 word 2 == 1'")
     parser.add_argument("--never", metavar="RULE", action="append", default=[],
-                        help="status 3 and a history where RULE holds of an end")
+                        help="status 3 and a history, if an end satisfies RULE")
     parser.number("--states", (1, 10**9), "search at most N states (1000000)", 10**6)
-    parser.add_argument("--resume", metavar="FILE", help="go on from where the search of these words stopped, and write "
+    parser.add_argument("--resume", metavar="FILE", help="continue the search of these arguments, and write "
                         "there where this one stops")
     parser.number("--processes", (1, 64), "search by N processes (one for each processor)", os.cpu_count() or 1)
     parser.number("--runs", (1, 100000), "samples: how many by each (32)")

@@ -1,14 +1,14 @@
 """Grades a folder of guests by rules on how they end in every interleaving, and prints a table.
 
 The guests are the .elf files of the folder and of those in it, and the .c and .S files, which are built with
-the kit in a folder of their own; an .elf file beside its source is not looked at. --never RULE is right where
-RULE holds at the end of no interleaving, --reach RULE where it does at the end of one. ./workbench explore searches,
-and docs/COURSE.md tells of rules. With --keep FOLDER a history is written of each end that was found.
+the kit in a folder of their own; an .elf file beside its source is ignored. --never RULE succeeds if no
+end of an interleaving satisfies RULE, --reach RULE if one does. ./workbench explore searches, and docs/COURSE.md
+explains rules. With --keep FOLDER a history is written of each end that was found.
 
   holds         no interleaving breaks the rule    broken      one does
   reachable     one ends so                        never       none does
   not known     the search stopped before; --states allows it more
-  no rule       the guest has not what the rule speaks of
+  no rule       the guest lacks what the rule mentions
 """
 from __future__ import annotations
 

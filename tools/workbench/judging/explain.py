@@ -1,10 +1,11 @@
 """Explains a guest's file, or the program's answer to it.
 
-Without a report it says what the file has, or why it is refused. With one it says where each
+Without a report it describes the file, or says why it is refused. With one it says where each
 block began (symbol and instruction, and the line of the source where the guest has debug data), how
 each adopted or granted section came about, and why each thread ended; a refusal is told with the
-numbers that disagree, and the line of a rejected history in a sentence. --thread, --lock and --block choose blocks: where several are given, those that
-all of them choose. After a usage line, --words says what is wrong with the words.
+numbers that disagree, and the line of a rejected history in a sentence. --thread, --lock and --block choose
+blocks; several of them choose the blocks that meet all. After a usage line, --words says what is wrong with the
+arguments.
 """
 from __future__ import annotations
 
@@ -104,7 +105,7 @@ def explain_report(file: guestfile.GuestFile, text: report.Report, asked: Namesp
 
 
 def said_of(words: list[str]) -> str:
-    return reasons.usage(words) or "the words are right: the program doesn't answer them by the usage line"
+    return reasons.usage(words) or "the arguments are right: the program doesn't answer them by the usage line"
 
 
 def refusal(path: str, line: str) -> str:
@@ -129,13 +130,13 @@ def words_of(parser: tool.Words) -> tool.Words:
     parser.report(nargs="?")
     parser.number("--thread", (0, 31), "the blocks of this thread")
     parser.number("--lock", (0, 31), "the blocks that hold this lock or end before its LOCK")
-    parser.add_argument("--block", metavar="A[-B]", type=stamps, help="this block, or these")
+    parser.add_argument("--block", metavar="A[-B]", type=stamps, help="this block, or this range of blocks")
     parser.number("--trace", (0, 10**9), metavar="BLOCK",
                   says="this block's instructions with their registers; alone, of this block only")
     parser.add_argument("--contexts", action="store_true",
                         help="what a context carries where another worker goes on with it, and where the locks' bytes go")
     parser.add_argument("--words", nargs=argparse.REMAINDER, metavar="WORD",
-                        help="the words that ./tclocks was given, last of all")
+                        help="the arguments that ./tclocks was given; this option comes last")
     return parser
 
 
@@ -155,7 +156,7 @@ def main(words: list[str]) -> None:
         print(refusal(asked.guest, given.line) if given.line.startswith("refused")
               else reasons.rejection(given.line) if given.line.startswith("rejected")
               else said_of(asked.words or []) if asked.words is not None
-              else "the words of the command were wrong; --words WORD.. behind the report says what is wrong with them")
+              else "the arguments were wrong; --words WORD.. after the report says what is wrong with them")
         return
     except report.Wrong as wrong:
         raise tool.Trouble(tool.WRONG, f"not legal: {wrong} (./workbench judge)") from None

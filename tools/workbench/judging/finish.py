@@ -2,7 +2,7 @@
 leave out, and prints the whole report.
 
 A line needs no more than its thread, as in 'thread 1' or 'thread 1 kind adopted worker 0'; what
-stands behind # is not read. Where a block can't be, it prints what would have been legal there.
+follows # is ignored. Where a block is impossible, it prints what would have been legal.
 """
 from __future__ import annotations
 
@@ -126,10 +126,10 @@ def follow(begin: Callable[..., Any], lines: list[Line]) -> tuple[legal.Run, lis
 def main(words: list[str]) -> None:
     parser = tool.words("finish", __doc__, "guest")
     parser.add_argument("history", metavar="HISTORY", nargs="?", default="-",
-                        help="the history; standard input where it is left out")
+                        help="the history; standard input if it is left out")
     parser.add_argument("--on", action="store_true", help="go on to the end of every thread, all sections taken")
     for name, some in limits.RUN.items():
-        parser.number(f"--{name}", some, f"where the history has no header ({DEFAULTS[name]})")
+        parser.number(f"--{name}", some, f"if the history has no header ({DEFAULTS[name]})")
     asked = parser.parse_intermixed_args(words)
     guest = guestfile.load(asked.guest).guest
     history = History(tool.read_lines(asked.history))

@@ -251,7 +251,7 @@ that released the lock.
 
 def main(words: list[str]) -> None:
     parser = tool.words("judge", JUDGE, "guest")
-    parser.report("a report; standard input where it is left out", nargs="?", default="-")
+    parser.report("a report; standard input if it is left out", nargs="?", default="-")
     asked = parser.parse_intermixed_args(words)
     guest = guestfile.load(asked.guest).guest
     try:

@@ -1,9 +1,9 @@
-"""Has the history of a report run again: by the program where it is built, as ./tclocks replay N W F B does
-with the guest's file of N bytes and the block lines behind it, else by model.py, and prints the answer.
+"""Replays the history of a report, and prints the answer: by the program if it is built, as ./tclocks replay N W F B
+does with the guest's file of N bytes followed by the block lines, else by model.py.
 
-W, F and B are those of the report's third line, where it has one. What stands behind the blocks is not read.
-The status is that of the program: 0 where the answer is the report, 3 where the guest is refused, 6 where the
-history is rejected.
+W, F and B are those of the report's third line, if it has one. What follows the blocks is ignored.
+The status is that of the program: 0 if the answer is the report, 3 if the guest is refused, 6 if the history
+is rejected.
 """
 from __future__ import annotations
 
@@ -34,12 +34,12 @@ def history_of(content: bytes) -> tuple[dict[str, int], bytes]:
 
 def main(words: list[str]) -> None:
     parser = tool.words("replay", __doc__, "guest")
-    parser.report("a report, or block lines alone; standard input where it is left out", nargs="?", default="-")
+    parser.report("a report, or block lines alone; standard input if it is left out", nargs="?", default="-")
     parser.add_argument("--profile", action="store_const", dest="form", const="profile", default="replay",
                         help="as ./tclocks profile N W F B")
-    parser.add_argument("--model", action="store_true", help="by the model, where the program is built too")
+    parser.add_argument("--model", action="store_true", help="by the model, even if the program is built")
     for name, some in limits.RUN.items():
-        parser.number(f"--{name}", some, "in the place of the report's")
+        parser.number(f"--{name}", some, "instead of the report's")
     asked = parser.parse_intermixed_args(words)
     file = guestfile.read(asked.guest)
     given, history = history_of(tool.read_bytes(asked.report, limits.HISTORY_BYTES + 1))

@@ -1,4 +1,4 @@
-"""Runs a guest, by the program where it is built and else by the model, and prints its report.
+"""Runs a guest, by the program if it is built, else by the model, and prints its report.
 
 Output and status are those of ./tclocks run W F B < GUEST, or of nodes G K W F B with --nodes G K. Which of the
 two ran is said on standard error. With one worker both print the same; with several the program does what the

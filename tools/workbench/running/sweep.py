@@ -1,9 +1,9 @@
 """Runs a guest with each of some numbers of workers and batch limits, and prints what delegation did: a
 table (CSV) with one line for each run, or with --locks one for each lock of each run.
 
-The runs are those of the program where it is built, and else of the model, in the interleavings of its
+The runs are those of the program if it is built, else of the model, in the interleavings of its
 seeds; `by` says which. Numbers of a run are sums over its locks, and the greatest of longest and longest_wait;
-seconds are those that the program took, and none of the model, which tells of no time.
+seconds are those that the program took; the model has none.
 
 With --nodes the runs are those of `nodes G K W F B`: worker W is on node W modulo G, and a lock is passed on to a
 waiter of the releaser's node first, but to none before one that was passed over K times (--bound). 0 nodes are
@@ -167,7 +167,7 @@ def asked_of(words: list[str]) -> argparse.Namespace:
     parser.number("--runs", (1, 1000), "of each (3)", 3)
     parser.number("--fuel", limits.RUN["fuel"], "(20000)", 20000)
     parser.number("--seed", (0, 10**9), "of the model's first run (1)", 1)
-    parser.add_argument("--model", action="store_true", help="the model, even where the program is built")
+    parser.add_argument("--model", action="store_true", help="the model, even if the program is built")
     parser.add_argument("--locks", action="store_true", help="a line for each lock of each run")
     parser.add_argument("--plot", metavar="FILE", help="write the numbers' plots into it (SVG)")
     parser.add_argument("--strips", metavar="FILE", help="write a picture into it (SVG) of which worker had a lock's "

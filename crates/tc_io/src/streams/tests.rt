@@ -34,8 +34,8 @@ impl Read for Filling {
     }
 }
 
-/// A reader of bytes that gives one in each read. It fails in the reads that are told so, by
-/// number from 0, and has then given nothing.
+/// A reader of bytes that gives one in each read. It fails in the chosen reads, by number from 0,
+/// and has then given nothing.
 #[derive(Drop)]
 struct Flaky {
     fails: [bool; 4],
@@ -59,8 +59,8 @@ impl Read for Flaky {
     }
 }
 
-/// A writer that keeps what it takes. The writes, by number from 0, take at most as many bytes as is
-/// told of them, or fail where nothing is; those behind them take all bytes.
+/// A writer that keeps what it takes. The first writes, by number from 0, take at most as many
+/// bytes as chosen, or fail if none are chosen; later ones take all bytes.
 #[derive(Drop)]
 struct Fickle {
     takes: [Option<usize>; 3],
@@ -128,7 +128,7 @@ fn a_reader_of_std_has_all_the_room(rt: HostRuntime) -> Result<(), Fail> {
     Ok(())
 }
 
-/// Each read of a source is one read of its reader, which fails just where that one does.
+/// Each read of a source is one read of its reader, which fails if and only if that one does.
 #[test]
 fn a_reader_of_std_reads_on_after_failed_reads(rt: HostRuntime) -> Result<(), Fail> {
     for fails in [
