@@ -390,9 +390,9 @@ class Definitions(Case):
             there = set().union(*(believed.pop(row) for row in rows))
             self.assertEqual(there, set(re.findall(r"`([\w-]+)`", words)), rows)
         for crate, words in re.findall(r"(?m)^\| (tc_\w+) \| (.*) \|$", code):
-            there = set().union(*(believed.pop(place) for place in list(believed) if place.startswith(f"{crate} ")))
-            named = set(re.findall(r"`([A-Z]\w+)`", words))
-            self.assertEqual(there, named, crate)
+            rest = [place for place in believed if place.startswith(f"{crate} ")]
+            there, named = set().union(*map(believed.pop, rest)), set(re.findall(r"`([A-Z]\w+)`", words))
+            self.assertEqual(there, named, f"{', '.join(rest)}: a file of definitions needs a row of its own")
         self.assertEqual(set().union(*believed.values()), set(re.findall(r"`(\w+)`", kit)))
 
 
