@@ -1,5 +1,9 @@
 # guest.mk - the rules that build a guest. In the folder of my.c or my.S:
 #   make -f PATH/TO/guests/kit/guest.mk my.elf
+# clang 14 with lld builds all guests here but stale:
+#   make -C guests -B CC='clang --target=riscv32-unknown-elf -mno-relax -fuse-ld=lld' \
+#     TARGET='-march=$(MARCH) -mabi=ilp32' \
+#     LIBS="$(riscv64-unknown-elf-gcc -march=rv32i -mabi=ilp32 -print-libgcc-file-name)"
 KIT   := $(dir $(lastword $(MAKEFILE_LIST)))
 CROSS ?= riscv64-unknown-elf-
 CC    := $(CROSS)gcc
@@ -15,8 +19,8 @@ MARCH   ?= rv32im
 TARGET   = -march=$(MARCH) -mabi=ilp32 -mcmodel=medlow -mstrict-align
 CFLAGS  ?= -O2
 LIBS    ?= -lgcc
-# DEBUG=-g leaves debug data in the file, by which guests/explain names lines of the source. The
-# code is the same.
+# DEBUG=-g leaves debug data in the file, by which ./workbench explain names lines of the source.
+# The code is the same.
 DEBUG   ?= -g0
 STRIP_-g0 := -Wl,--strip-debug
 COMPILE  = $(TARGET) -std=gnu11 -Wall -Wextra -Werror $(DEBUG) -ffreestanding \

@@ -1,17 +1,14 @@
 """Runs guests by several numbers of workers in turn, and prints a table of the speed-up by more workers. It is no
 test: it asserts no time.
 
-Seconds are the wall-clock time of the whole process with its report, processor seconds its time on all processors
-together. The least of some runs is printed, or with -m the median. Two columns are ratios: the time of the most
-workers divided by that of the fewest. Three columns stay empty if there is no C compiler. The first is the cost of
-sharing the sequence counter, in processor seconds: what the most workers take more than one for as many atomic
-additions to one word as the run has blocks. The second says how free the processors are: the seconds of a loop on
-registers by as many threads as the most workers, divided by those of the fewest; 1.00 if each thread has a core for
-itself. The third says what the first ratio could be here: that of a program that only runs such a loop, as long as
-the guest, divided among its threads. With -q only rounds count before and after which the loop's number is small; the
-last column says how many did, of how many. If processors change their speed from run to run, -m is fairer: the least
-time of one worker is that of one fast processor, and several workers seldom have as many of them at once. A processor
-may be faster while others are idle; with -e all are busy in each run: loops keep those busy that its workers leave idle.
+Seconds are those of the whole process with its report; processor seconds are the sum over all processors. The table has
+the least of some runs, or with -m the median. The ratios divide the most workers by the fewest. Three columns need a C
+compiler. Clock estimates contention on the shared clock: the extra processor seconds of the most workers over one for an
+atomic increment a block. Loop says how free the processors are: the time of a loop on registers by as many threads as the
+most workers, to that by as many as the fewest; 1.00 if each thread has a core of its own. Shared loop bounds the first
+ratio: such a loop, as long as the guest, whose turns the threads share. With -q a round counts only if the loops before
+and behind it were that close; the last column counts such rounds. If processors change their speed from run to run, -m is
+fairer. A processor may be faster while others are idle; with -e loops keep all of them busy in each run.
 """
 from __future__ import annotations
 
