@@ -19,8 +19,8 @@ MARCH   ?= rv32im
 TARGET   = -march=$(MARCH) -mabi=ilp32 -mcmodel=medlow -mstrict-align
 CFLAGS  ?= -O2
 LIBS    ?= -lgcc
-# DEBUG=-g leaves debug data in the file, by which ./workbench explain names lines of the source.
-# The code is the same.
+# DEBUG=-g leaves debug data in the file, by which ./workbench explain names lines of the source. The
+# code is the same.
 DEBUG   ?= -g0
 STRIP_-g0 := -Wl,--strip-debug
 COMPILE  = $(TARGET) -std=gnu11 -Wall -Wextra -Werror $(DEBUG) -ffreestanding \

@@ -2,24 +2,21 @@
 from docs, from facts.json and from guests whose runs are known on paper."""
 from __future__ import annotations
 
-import contextlib
 import json
 import multiprocessing
 import os
 import pathlib
-import re
 import shutil
 import signal
 import subprocess
 import sys
 import tempfile
 import time
-import traceback
 import unittest
 import warnings
-from typing import IO, Any, Callable
+from typing import IO, Any, Callable, Iterable
 
-from tools.workbench import command, places
+from tools.workbench import command, places, progress
 from tools.workbench.guest import guestfile, made
 from tools.workbench.reports import report
 from tools.workbench.running import delegation, program
@@ -38,14 +35,17 @@ def told(name: str) -> str:
     return (ROOT / "tools/tests/histories" / f"{name}.txt").read_text()
 
 
+def rows(name: str) -> list[list[str]]:
+    """The rows of a table of the folder tables, in which \\n is an end of line."""
+    lines = (ROOT / "tools/tests/tables" / f"{name}.txt").read_text().splitlines()
+    return [line.replace("\\n", "\n").split(" | ") for line in lines if not line.startswith("#")]
+
+
 # lui x5,0x20; lock(0); x7 = load, plus 1, store; unlock(0); exit.
 ONE = (0x000202B7, 0x00000513, 0x00100893, 0x00000073, 0x0002A383, 0x00138393, 0x0072A023,
        0x00000513, 0x00200893, 0x00000073, 0x05D00893, 0x00000073)
 BY_HAND = told("by-hand")
 PROFILE = told("by-hand-profile")
-# The same in the form of before, without the program counters.
-BY_HAND_V1 = re.sub(" pc [0-9a-f]{8}", "", BY_HAND).replace("tclocks 2", "tclocks 1")
-PCS = ("00100000", "0010000c", "00100000", "0010000c", "00100028", "00100028")
 
 
 # A program that is made up: it answers by the model, and to `replay` of so much fuel with another report. It has as
@@ -97,41 +97,33 @@ def elf(name: str) -> str:
     return str(GUESTS / f"{name}.elf")
 
 
+def inside(asked: list[str], files: Iterable[IO[bytes]], by: str | None) -> None:
+    """Runs a tool in a process that is a copy of this one."""
+    for number, file in enumerate(files):
+        os.dup2(file.fileno(), number)
+    sys.stdin, sys.stdout, sys.stderr = open(0), open(1, "w"), open(2, "w")
+    sys.argv[1:] = asked
+    if by:
+        program.PATH, program.COMMAND = pathlib.Path(by), pathlib.Path("false")
+    signal.alarm(600)
+    warnings.simplefilter("ignore")  # which a test asks for, and a tool does not
+    command.main()
+
+
 def run(tool: str, *words: pathlib.Path | str, given: bytes | str = b"", stdout: IO[bytes] | None = None,
         by: str | None = None) -> subprocess.CompletedProcess[bytes]:
     """Runs a tool by a copy of this process, which has the modules; `by` stands for the built program."""
-    given, asked = given if isinstance(given, bytes) else given.encode(), [*tool.split(), *map(str, words)]
+    asked = [*tool.split(), *map(str, words)]
     with tempfile.TemporaryFile() as read, tempfile.TemporaryFile() as out, tempfile.TemporaryFile() as said:
-        read.write(given)
+        read.write(given if isinstance(given, bytes) else given.encode())
         read.seek(0)
-        child = os.fork()
-        if not child:
-            for number, file in enumerate((read, stdout or out, said)):
-                os.dup2(file.fileno(), number)
-            sys.stdin, sys.stdout, sys.stderr = open(0), open(1, "w"), open(2, "w")
-            sys.argv[1:], status, others = asked, 1, set(multiprocessing.active_children())
-            if by:
-                program.PATH, program.COMMAND = pathlib.Path(by), pathlib.Path("false")
-            signal.alarm(600)
-            warnings.simplefilter("ignore")  # which a test asks for, and a tool does not
-            try:
-                command.main()
-            except SystemExit as ended:
-                status = int(ended.code or 0)
-            except BaseException:
-                traceback.print_exc()
-            finally:
-                for one in set(multiprocessing.active_children()) - others:
-                    one.terminate()
-                sys.stderr.flush()
-                with contextlib.suppress(OSError):
-                    sys.stdout.flush()
-                os._exit(status)
-        _, status = os.waitpid(child, 0)
+        given_to = asked, (read, stdout or out, said), by
+        child = multiprocessing.get_context("fork").Process(target=inside, args=given_to)
+        child.start()
+        child.join()
         for file in out, said:
             file.seek(0)
-        status = os.WEXITSTATUS(status) if os.WIFEXITED(status) else -os.WTERMSIG(status)
-        return subprocess.CompletedProcess(asked, status, None if stdout else out.read(), said.read())
+        return subprocess.CompletedProcess(asked, child.exitcode or 0, None if stdout else out.read(), said.read())
 
 
 def process(*words: Any, **more: Any) -> subprocess.CompletedProcess[bytes]:
@@ -143,10 +135,22 @@ GUEST = saved("one.elf", built(ONE, (0, 0), 1))
 FINISHED = run("finish", GUEST, given=BY_HAND).stdout
 
 
-def history(name: str, workers: int, batch: int, seed: int | None, fuel: int = 20000,
-            version: int = 2) -> tuple[list[report.Block], str]:
-    made_run, blocks = delegation.delegated(guestfile.load(elf(name)).guest, fuel, workers, batch, seed, version)
+def history(name: str, workers: int, batch: int, seed: int | None, fuel: int = 20000) -> tuple[list[report.Block], str]:
+    made_run, blocks = delegation.delegated(guestfile.load(elf(name)).guest, fuel, workers, batch, seed)
     return blocks, "\n".join(made_run.lines(blocks)) + "\n"
+
+
+def served(hall: delegation.Hall, workers: dict[int, int], come: Iterable[str]) -> str:
+    """Whom worker 0 passes lock 0 of counter on to, each time when some threads, of these workers, have come."""
+    found, hall.line[0] = "", [0]
+    for threads in come:
+        for thread in map(int, threads):
+            hall.line[0].append(thread)
+            hall.linked.add((thread, 0))
+            hall.shipped[thread] = [workers[thread], 0]
+        found += str(hall.next_in_line(0, delegation.Worker(0)))
+        hall.line[0].remove(int(found[-1]))
+    return found
 
 
 class Case(unittest.TestCase):
@@ -176,21 +180,16 @@ class Folder(unittest.TestCase):
     """A checkout with a toolchain and a program that are made up, for the tests of the command tclocks and of
     the script that builds it."""
 
-    @classmethod
-    def setUpClass(cls) -> None:
-        # A job in the background ignores some signals, and would hand that on.
-        for number in (signal.SIGINT, signal.SIGHUP, signal.SIGTERM):
-            if signal.getsignal(number) == signal.SIG_IGN:
-                signal.signal(number, signal.SIG_DFL)
-
     def setUp(self) -> None:
+        progress.heed_signals()
         self.folder = tempfile.TemporaryDirectory()
         self.addCleanup(self.folder.cleanup)
         self.root = pathlib.Path(self.folder.name).resolve()
         for crate in ("low", "side", "middle", "tc_io", "tc_tests", "tclocks"):
             self.write(f"crates/{crate}/src/lib.rt", f"// {crate}\n")
         self.write("guests/exit.elf", "")
-        own = "__init__.py", "limits.py", "places.py", "tool.py", "running/__init__.py", "running/program.py"
+        own = ("__init__.py", "limits.py", "places.py", "progress.py", "tool.py", "running/__init__.py",
+               "running/program.py", "help/tclocks-build.txt")
         names = ["tclocks", "tclocks-build", "CITATION.cff", "tools/__init__.py"]
         names += [f"tools/workbench/{name}" for name in own]
         made_up = {"bin/rt": "bin/rt", "program": "program", "listed-crates": "crates.txt"}

@@ -16,11 +16,12 @@ from unittest import mock
 from tools.workbench.benches import guests
 from tools.workbench.guest import guestfile
 from tools.workbench.running import delegation, orders, program
-from .common import GUEST, GUESTS, MADE_UP, NAMES, ROOT, TEMPORARY, Case, elf, process, run, saved, script
+from .common import GUEST, GUESTS, MADE_UP, NAMES, ROOT, TEMPORARY, Case, elf, process, run, saved, script, served
 
 
 BENCHES = {"run": (), "nodes": ("4", "100", "8"), "replay": (), "peer": (), "several": (), "together": ()}
 PROGRAM = script("measured", MADE_UP)
+COUNTER = guestfile.load(elf("counter")).guest
 QUICK = "--workers 1 --batch 0 --runs 1 --model"
 COMPILER = unittest.skipUnless(shutil.which("cc"), "there is no C compiler")
 
@@ -96,8 +97,7 @@ exec {ROOT}/workbench run - "$@" --seed 1 $orders 2>/dev/null
                                    *names, "Rounds"])
         self.assertEqual([(row[0], len(row), row[10]) for row in rows[2:]],
                          [("hot-lock", 11, "1 of 1"), ("own-locks", 11, "1 of 1")])
-        self.assertEqual([[bool(cell) for cell in row[7:10]] for row in rows[2:]],
-                         [[bool(shutil.which("cc"))] * 3] * 2)
+        self.assertEqual([[bool(cell) for cell in row[7:10]] for row in rows[2:]], [[bool(shutil.which("cc"))] * 3] * 2)
         self.assertEqual(len(told), 1)
         self.assertIn("least of 1, 2 workers to 1 worker", told[0])
         rows, told = self.table("several", "-m", "-r", "3", "-f", "20", "-w", "1,2", "hot-lock")
@@ -206,7 +206,7 @@ class Sweep(Case):
         self.assertLess(10 * int(rows["256"]["changes"]), int(rows["0"]["changes"]))
 
     def test_nodes(self) -> None:
-        """With one node nobody is on another one; more nodes than workers are left out; each run is that of guests/run."""
+        """With one node nobody is on another one; more nodes than workers are left out; each run is that of run."""
         rows = swept("--workers 2,4 --batch 8 --nodes 0,1,2,4 --bound 0,3 --runs 1", "counter",
                      "--plot", str(TEMPORARY / "nodes.svg"))
         self.assertEqual([(row["workers"], row["nodes"], row["bound"]) for row in rows],
@@ -225,16 +225,9 @@ class Sweep(Case):
 
     def test_whom_a_line_prefers(self) -> None:
         """One waiter of node 1 came before two of node 0, and a worker of node 0 passes the lock on three times."""
-        guest, worker = guestfile.load(elf("counter")).guest, delegation.Worker(0)
-        for nodes, bound, wanted in ((0, 0, [1, 2, 3]), (2, 0, [1, 2, 3]), (2, 1, [2, 1, 3]), (2, 2, [2, 3, 1])):
-            hall = delegation.Hall(guest, 4, 100, 8, 0, nodes=nodes, bound=bound)
-            hall.line[0] = [0, 1, 2, 3]
-            hall.linked, hall.shipped = {(thread, 0) for thread in (1, 2, 3)}, {1: [3, 0], 2: [2, 0], 3: [0, 0]}
-            found = []
-            for _ in wanted:
-                found.append(hall.next_in_line(0, worker))
-                hall.line[0].remove(found[-1])
-            self.assertEqual(found, wanted, (nodes, bound))
+        for nodes, bound, wanted in (0, 0, "123"), (2, 0, "123"), (2, 1, "213"), (2, 2, "231"):
+            hall = delegation.Hall(COUNTER, 4, 100, 8, 0, nodes=nodes, bound=bound)
+            self.assertEqual(served(hall, {1: 3, 2: 2, 3: 0}, ("123", "", "")), wanted, (nodes, bound))
 
     def test_by_the_program(self) -> None:
         """One that is made up, in the place of the built one."""
@@ -273,29 +266,16 @@ class Sweep(Case):
         run(f"sweep {QUICK}", GUEST, "--strips", strips)
         self.assertIn("worker 0: 2 of these sections, in 1 stretch<", strips.read_text())
 
-    def test_wrong_files(self) -> None:
-        for option in ("--plot", "--strips"):
-            self.one_line(run(f"sweep {QUICK}", elf("first"), option, "/no/such/folder/x.svg"), 4)
+    def test_a_full_disk(self) -> None:
         self.full(f"sweep {QUICK}", elf("first"))
 
 
 class Orders(Case):
     def test_the_youngest_comes_first_within_the_bound(self) -> None:
         """Threads 1, 2 and 3 wait in this order, and whoever is served first and second comes again."""
-        worker = delegation.Worker(0)
         for bound, wanted in (0, "12312"), (1, "31213"), (2, "33123"), (9, "33321"):
-            hall = orders.YoungestHall(guestfile.load(elf("counter")).guest, 1, 100, 8, 0, bound=bound)
-            hall.line[0] = [0, 1, 2, 3]
-            hall.linked = {(thread, 0) for thread in (1, 2, 3)}
-            hall.shipped = {thread: [0, 0] for thread in (1, 2, 3)}
-            found = []
-            for go in range(5):
-                found.append(hall.next_in_line(0, worker))
-                hall.line[0].remove(found[-1])
-                if go < 2:
-                    hall.line[0].append(found[-1])
-                    hall.shipped[found[-1]] = [0, 0]
-            self.assertEqual("".join(map(str, found)), wanted, bound)
+            hall = orders.YoungestHall(COUNTER, 1, 100, 8, 0, bound=bound)
+            self.assertEqual(served(hall, {1: 0, 2: 0, 3: 0}, ("123", *wanted[:2], "", "")), wanted, bound)
 
     def test_by_the_programs_where_they_are_built(self) -> None:
         """Each order is asked of its program, with its words; a made-up one answers by the model."""

@@ -1,7 +1,6 @@
-"""The command tclocks, over a folder with a toolchain and a program that are made up: what it runs, and that
-it passes on all that the program does; and its words, against the program's own rules. The script that builds
-the program, over the same folder. And the gate .ci/run, over one with an rt and a workbench that are made
-up."""
+"""The command tclocks, over a folder with a toolchain and a program that are made up: what it runs, and that it passes
+on all that the program does; and its words, against the program's own rules. The script that builds the program, over
+the same folder. And the gate .ci/run, over one with an rt and a workbench that are made up."""
 from __future__ import annotations
 
 import os
@@ -16,7 +15,7 @@ import time
 import unittest
 
 from tools.workbench import limits
-from .common import ROOT, Folder, process
+from .common import ROOT, Folder, process, rows
 
 
 # The program's own line.
@@ -118,12 +117,9 @@ class Unproved(Folder):
         self.assertEqual(done.stdout, b"sources: run 1 1 0\na\nb\n")
 
     def test_streams_that_fail_have_the_programs_statuses(self) -> None:
-        for words, shell, status in (("run 1 1 0", "<&-", 2), ("run 1 1 0", "</", 2), ("run 1 1 0", ">/dev/full", 4),
-                                     ("run 1 1 0", ">&-", 4), ("demo 1 1", "<&-", 0), ("run 3 1 0", ">&-", 3),
-                                     ("stop", ">/dev/full", 1), ("stop", ">&-", 1),
-                                     ("replay 1 1 1 0", "<&-", 2), ("profile 1 1 1 0", "</", 2), ("replay 1 1 1 0", ">&-", 4)):
+        for words, shell, status in rows("streams"):
             done = self.shell(f'exec "$0" {words} {shell}')
-            self.assertEqual(done.returncode, status, (words, shell, done.stderr))
+            self.assertEqual(done.returncode, int(status), (words, shell, done.stderr))
         self.assertEqual(self.left_over(), [])
 
     def test_wrong_words_start_nothing(self) -> None:
@@ -341,19 +337,11 @@ class Gate(unittest.TestCase):
         self.assertEqual(lines[2:], ["512 passed, 0 failed (12 from before)", "rt: ok", "tested", "20 passed, 0 failed",
                                      "532 passed, 0 failed"])
 
-    def test_where_rt_fails_no_tool_is_tested(self) -> None:
-        for rt, last in (("echo '10 passed, 2 failed (a crate)'; exit 1", "10 passed, 2 failed"), ("exit 5", "0 passed, 1 failed"),
-                         ("echo '10 passed, 0 failed'; exit 1", "10 passed, 1 failed"), ("echo '10 passed, 2 failed'", "10 passed, 2 failed"),
-                         ("echo nothing", "0 passed, 1 failed"), ("kill -9 $$", "0 passed, 1 failed")):
-            status, lines = self.gate(rt)
-            self.assertEqual((status, lines[-1]), (1, last), rt)
-            self.assertNotIn("tested", lines)
-
-    def test_a_failing_tool_fails_the_gate(self) -> None:
-        for workbench, last in (("echo '18 passed, 2 failed'; exit 3", "28 passed, 2 failed"), ("exit 3", "10 passed, 1 failed"),
-                                ("echo '19 passed, 0 failed'; exit 3", "29 passed, 1 failed")):
-            status, lines = self.gate("echo '10 passed, 0 failed'", workbench)
-            self.assertEqual((status, lines[-1]), (1, last), workbench)
+    def test_a_failure_fails_the_gate(self) -> None:
+        """Of rt, whereupon no tool is tested, or of the tools."""
+        for rt, workbench, last in rows("gate"):
+            status, lines = self.gate(rt, workbench)
+            self.assertEqual((status, lines[-1], "tested" in lines), (1, last, workbench != "-"), (rt, workbench))
 
     def test_without_python(self) -> None:
         (self.root / "bin" / "python3").unlink()

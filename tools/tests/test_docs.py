@@ -15,7 +15,7 @@ from tools.workbench.checking import definitions
 from tools.workbench.guest import guestfile
 from tools.workbench.running import delegation
 from .common import (ANSWERS, COMPILER, COURSE, DOCS, GUESTS, MADE_UP, NAMES, ROOT, TEMPORARY, Case, elf, process,
-                     run, saved, script)
+                     rows, run, saved, script, served)
 
 
 PICTURES = DOCS / "pictures"
@@ -28,22 +28,15 @@ BEGINS = re.compile(r"\(?(cat|for|make|done|echo|printf) ?|\./(workbench|tclocks
 LEFT_OUT = re.compile(r"\./tclocks-build|\./workbench (check|fuzz|refuse|endure|facts|bench)\b|\brt |make .*(-B|CC=)|PATH/TO|\.\.(?!/)"
                       r"|\b(GUEST|REPORT|FOLDER|FILE|HISTORY|RULE|NAME|W F B|G K)\b|apt-get|git |sums$|same$|\[|tclocks (demo|gen|nodes)|(?<!/)my\.elf"
                       r"|^\./(workbench|tclocks) [a-z]+$|^\./workbench judge \S+$|1 F B")
-KEPT = {"counter": "counter", "philosophers": "philosophers", "first": "first", "first-alone": "first",
-        "by-waiter": "first", "by-holder": "first", "by-server": "first"}
+KEPT = "counter", "philosophers", "first", "first-alone", "by-waiter", "by-holder", "by-server"
 COURSE_PAGE, KEY = DOCS / "COURSE.md", ANSWERS / "README.md"
-WORDS = {README: 1600, ROOT / "CHANGELOG.md": 1400, ROOT / "CONTRIBUTING.md": 1080, ROOT / "bench" / "README.md": 1350,
-         GUIDE: 5120, COURSE_PAGE: 6810, KEY: 3190, ARCHITECTURE: 4210, DECISIONS: 1620, GLOSSARY: 890, VERIFICATION: 3550,
-         DOCS / "DEFINITIONS.md": 1380, DOCS / "HOWTO.md": 1200, GUESTS / "README.md": 110,
-         **{ROOT / "crates" / name / "README.md": most for name, most in (
-             ("tc_combiner", 380), ("tc_hall", 350), ("tc_queue", 400), ("tc_replay", 310), ("tc_workers", 400))}}  # at most
-ALL_WORDS = 35000  # of all pages but bench/results, with the notes on mutants
 
 
 class Kept(Case):
     def test_kept_reports_are_legal_and_the_pictures_are_made_of_them(self) -> None:
-        for name, guest in KEPT.items():
+        for name in KEPT:
             said = "legal so far, 200 blocks" if name == "counter" else "a legal run, to the end of every thread"
-            self.says(said, run("judge", elf(guest), PICTURES / f"{name}.txt"))
+            self.says(said, run("judge", elf(name if name in NAMES else "first"), PICTURES / f"{name}.txt"))
         subprocess.run([PICTURES / "make", TEMPORARY], check=True, stderr=subprocess.DEVNULL)
         for name in (*KEPT, "overview", "stays", "sweep", "orders"):
             self.assertEqual((PICTURES / f"{name}.svg").read_bytes(), (TEMPORARY / f"{name}.svg").read_bytes(), name)
@@ -157,11 +150,12 @@ class Pages(Case):
 
     def test_pages_are_short(self) -> None:
         pages = {page for page in PAGES if page.parent != ROOT / "bench" / "results"}
-        self.assertEqual(pages, {*WORDS})
         words = {page: len(page.read_text().split()) for page in (*pages, *ROOT.glob("crates/*/must-fail/*.md"))}
-        for page, most in WORDS.items():
-            self.assertLessEqual(words[page], most, page)
-        self.assertLessEqual(sum(words.values()), ALL_WORDS)
+        *bounds, (_, together) = rows("pages")
+        self.assertEqual(pages, {ROOT / page for page, _ in bounds})
+        for page, most in bounds:
+            self.assertLessEqual(words[ROOT / page], int(most), page)
+        self.assertLessEqual(sum(words.values()), int(together))
 
 
 class Contracts(Case):
@@ -548,16 +542,8 @@ class Guests(Case):
         done = run("finish", elf("counter"), given=text)
         self.says("legal so far, 16 blocks", done)
         text = done.stdout.decode()
-        found = re.findall(r"thread (\d) .* kind adopted worker 0 ", text)
+        found = "".join(re.findall(r"thread (\d) .* kind adopted worker 0 ", text))
         for bound in range(6):
             hall = delegation.Hall(guestfile.load(elf("counter")).guest, 4, 100, 8, 0, nodes=2, bound=bound)
-            for come, picked in zip(("12345", "", "2", "4", "", "", ""), found):
-                for thread in map(int, come):
-                    hall.line[0] = (hall.line[0] or [0]) + [thread]
-                    hall.linked.add((thread, 0))
-                    hall.shipped[thread] = [thread % 2, 0]
-                chosen = hall.next_in_line(0, delegation.Worker(0))
-                if str(chosen) != picked:
-                    break
-                hall.line[0].remove(chosen)
-            self.assertEqual(str(chosen) == found[-1], bound == 2, bound)
+            picked = served(hall, {thread: thread % 2 for thread in range(6)}, ("12345", "", "2", "4", "", "", ""))
+            self.assertEqual(picked == found, bound == 2, bound)

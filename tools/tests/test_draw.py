@@ -16,8 +16,8 @@ from typing import Any, Callable
 from tools.workbench.drawing import overview, page, svg
 from tools.workbench.guest import guestfile, made as maker, names, sources
 from tools.workbench.reports import report, timeline
-from .common import (BY_HAND, BY_HAND_V1, DOCS, FINISHED, GUEST, NAMES, ONE, ROOT, TEMPORARY, Case, elf,
-                     history, run, saved, told)
+from .common import (BY_HAND, DOCS, FINISHED, GUEST, NAMES, ONE, ROOT, TEMPORARY, Case, elf,
+                     history, rows, run, saved, told)
 
 
 PHILOSOPHERS = history("philosophers", 4, 8, 1)
@@ -87,9 +87,8 @@ class Page(Case):
         self.assertEqual(data_of(made(BY_HAND, None))["broken"], [-1])
 
     def test_without_a_guest(self) -> None:
-        for text in (BY_HAND, BY_HAND_V1):
-            data = data_of(made(text, None))
-            self.assertEqual((data["registers"], data["words"], data["changes"], data["threads"]), (None, None, [], ["", ""]))
+        data = data_of(made(BY_HAND, None))
+        self.assertEqual([*map(data.get, ("registers", "words", "changes", "threads"))], [None, None, [], ["", ""]])
 
     def test_one_file_from_nowhere_else(self) -> None:
         whole = made(history("counter", 4, 8, 1)[1], elf("counter"))
@@ -198,8 +197,8 @@ class Lanes(Case):
         rows, said = lanes(GRANTED)
         self.assertEqual(rows["lock 0"], "01")
         self.assertIn("Moves of locks to another worker: lock 0: 1 in 2 sections.", said)
-        for text in (BY_HAND, BY_HAND_V1):  # block 2 stands between the release and the adopted section
-            self.assertEqual(lanes(text)[0]["lock 0"], "000")
+        # Block 2 stands between the release and the adopted section.
+        self.assertEqual(lanes(BY_HAND)[0]["lock 0"], "000")
 
     def test_granted_lock_is_with_no_worker(self) -> None:
         moved = GRANTED.splitlines(keepends=True)
@@ -240,11 +239,7 @@ def picture(text: str, name: str, first: int = 0, last: int | None = None,
 
 class Pictures(Case):
     def test_names_of_symbols(self) -> None:
-        for name, wanted in (("philosophers", ("thread 3 philosopher(3)", "lock 2 forks[2]", "lock 5 table")),
-                             ("buffer", ("thread 0 consumer(30)", "thread 1 producer(100)", "lock 0 buffer")),
-                             ("bank", ("thread 7 teller(88)", "lock 7 accounts[7]")),
-                             ("ring", ("thread 5 passer(0xffffff00)", "lock 0 ring")),
-                             ("faults", ("thread 1 t1(1793)", "lock 4 cell4"))):
+        for name, *wanted in rows("names"):
             text = history(name, 3, 2, 1, fuel=100)[1]
             for said in (picture(text, name), picture(text, name, draw=drawn)):
                 for part in wanted:

@@ -14,8 +14,8 @@ from tools.workbench.guest import guestfile, made, model
 from tools.workbench.judging import rejecting
 from tools.workbench.reports import report, spoil
 from tools.workbench.running import delegation, program
-from .common import (BY_HAND, BY_HAND_V1, DOCS, FACTS, FINISHED, GUEST, GUESTS, NAMES, ONE, PCS,
-                     PROFILE, TEMPORARY, Case, built, elf, history, process, run, saved, told)
+from .common import (BY_HAND, DOCS, FACTS, FINISHED, GUEST, GUESTS, NAMES, ONE,
+                     PROFILE, TEMPORARY, Case, built, elf, history, process, rows, run, saved, told)
 
 
 class ByHand(Case):
@@ -32,23 +32,15 @@ class ByHand(Case):
                 "thread 1 kind adopted\nthread 0\nthread 1 worker 1"):
             self.assertEqual(run("finish", GUEST, given=lines).stdout, FINISHED)
 
-    def test_both_forms(self) -> None:
-        self.says("legal so far, 6 blocks", run("judge", GUEST, given=BY_HAND_V1))
+    def test_program_counters(self) -> None:
         self.says("block 1, line 5: pc is 00100008, and must be 0010000c",
                   run("judge", GUEST, given=BY_HAND.replace("pc 0010000c", "pc 00100008", 1)))
-        for old, new in (("tclocks 2", "tclocks 1"), ("tclocks 2", "tclocks 3")):
-            self.one_line(run("judge", GUEST, given=BY_HAND.replace(old, new)), 3)
-        for text in (BY_HAND, BY_HAND_V1):
-            explained = run("explain", GUEST, "-", given=text).stdout.decode()
-            self.assertEqual(tuple(re.findall(r"# ([0-9a-f]{8})", explained)), PCS)
+        self.one_line(run("judge", GUEST, given=BY_HAND.replace("tclocks 2", "tclocks 1")), 3)
+        explained = run("explain", GUEST, "-", given=BY_HAND).stdout.decode()
+        self.assertEqual(re.findall(r"# 001000([0-9a-f]{2})", explained), ["00", "0c", "00", "0c", "28", "28"])
 
     def test_first_block_that_is_not_legal(self) -> None:
-        changes = {"batch 4": ("batch 0", "block 3"), "adopted worker 0": ("adopted worker 1", "block 3"),
-                   "kind taken": ("kind granted", "block 1"),
-                   "turns 7 held 0 kind adopted": ("turns 6 held 0 kind adopted", "block 3"),
-                   "held 0 kind taken": ("held - kind on", "block 1"),
-                   "end exit\nblock 5": ("end cut\nblock 5", "block 4")}
-        for old, (new, place) in changes.items():
+        for old, new, place in rows("illegal"):
             for tool in ("judge", "finish"):
                 done = run(tool, GUEST, given=BY_HAND.replace(old, new))
                 self.one_line(done, 3, place)
@@ -215,13 +207,7 @@ class Answers(Case):
         status, text = answer("replay", EXIT_FILE, numbers, OF_EXIT)
         self.assertEqual((status, text[:10]), (0, "tclocks 2\n"))
         self.assertIn(OF_EXIT + "thread 0 exit fuel 98 pc 00010058\nx0 00000000 ", text)
-        for old, new, said in (("turns 2", "turns 1", "1 4 Block"), ("kind start", "kind on", "1 5 Kind"),
-                               ("worker 0", "worker 1", "1 6 Worker"), ("thread 0", "thread 1", "1 2 Thread"),
-                               ("block 0", "block 1", "1 1 Text"), (OF_EXIT, "", "1 7 Incomplete"), ("exit\n", "exit", "1 1 Text"),
-                               ("exit\n", "exit\n\n", "2 1 Text"), ("exit\n", "exit\n" + OF_EXIT, "2 1 Text"),
-                               ("exit\n", "exit\n" + OF_EXIT.replace("block 0", "block 1"), "2 2 Thread"),
-                               ("held -", "held 0", "1 4 Block"), ("end exit", "end spent", "1 4 Block"),
-                               ("00010054", "00010058", "1 4 Block")):
+        for old, new, said in rows("one-block"):
             for form in ("replay", "profile"):
                 self.assertEqual(answer(form, EXIT_FILE, numbers, OF_EXIT.replace(old, new)),
                                  (6, f"rejected {said}\n"), new)
@@ -249,12 +235,10 @@ class Answers(Case):
         """The rule as it is written: a thread may be handed what it released itself."""
         file, lines = built(ONE, (0, 0), 1), rejecting.history_of(BY_HAND).decode()
         self.assertEqual(answer("profile", file, (2, 100, 4), lines), (0, PROFILE))
-        for old, new, limit, wrong in (("adopted", "granted", 4, True), ("adopted", "taken", 4, False), ("adopted", "granted", 0, False),
-                                       ("adopted", "adopted", 0, True), ("adopted worker 0", "adopted worker 1", 4, True),
-                                       ("taken", "adopted", 4, True), ("taken", "granted", 0, True), ("adopted", "on", 4, True)):
-            status, text = answer("replay", file, (2, 100, limit), lines.replace(old, new))
+        for old, new, limit, wrong in rows("batch-rule"):
+            status, text = answer("replay", file, (2, 100, int(limit)), lines.replace(old, new))
             line = 2 if old == "taken" else 4
-            self.assertEqual((status, text) == (6, f"rejected {line} 5 Kind\n"), wrong, (new, limit, text[:40]))
+            self.assertEqual((status, text) == (6, f"rejected {line} 5 Kind\n"), wrong == "yes", (new, limit))
             self.assertIn(status, (0, 6))
 
     def test_what_is_refused(self) -> None:
@@ -263,23 +247,15 @@ class Answers(Case):
         most, limits.HISTORY_BYTES = limits.HISTORY_BYTES, len(OF_EXIT)
         self.addCleanup(setattr, limits, "HISTORY_BYTES", most)
         self.assertEqual(answer("profile", EXIT_FILE, (1, 100, 0), OF_EXIT)[0], 0)
-        self.assertEqual(answer("profile", EXIT_FILE, (1, 100, 0), OF_EXIT + "x"),
-                         (3, "refused 0 TooLarge\n"))
+        self.assertEqual(answer("profile", EXIT_FILE, (1, 100, 0), OF_EXIT + "x"), (3, "refused 0 TooLarge\n"))
 
     def test_lines(self) -> None:
         """What is a line and what is none, whatever the guest."""
         line = OF_EXIT[:-1]
-        for old, new in (("thread 0", "thread 4294967295"), ("worker 0", "worker 4294967295"), ("turns 2", "turns 4096"),
-                         ("held -", "held 0"), ("held -", "held 0,9,10,30,31"), ("held -", "held 1,2,3,4,5,6,7"), ("exit", "wants 31"),
-                         ("exit", "fault 12"), ("exit", "unlocked 0"), ("00010054", "ffffffff"), ("start", "granted")):
-            self.assertIsNotNone(rejecting.block_of(line.replace(old, new), 0), new)
-        for old, new in (("thread 0", "thread 4294967296"), ("worker 0", "worker 4294967296"), ("turns 2", "turns 4097"),
-                         ("turns 2", "turns 0"), ("turns 2", "turns 02"), ("held -", "held 32"), ("held -", "held 1,0"),
-                         ("held -", "held 1,1"), ("held -", "held 0,"), ("held -", "held 00"), ("exit", "wants 32"), ("exit", "wants 01"),
-                         ("exit", "fault 13"), ("exit", "fault 0"), ("exit", "unlocked"), ("exit", "exits"), ("00010054", "0001005"),
-                         ("00010054", "000100540"), ("00010054", "0001005A"), (" pc 00010054", ""), ("start", "other"), ("block", "Block"),
-                         (" kind", "  kind"), ("exit", "exit "), ("block", " block"), ("turns 2", "turns " + "9" * 5000)):
-            self.assertIsNone(rejecting.block_of(line.replace(old, new), 0), new)
+        self.assertIsNone(rejecting.block_of(line.replace("turns 2", "turns " + "9" * 5000), 0))
+        for old, new, is_one in rows("lines"):
+            changed = line.replace(old, new.replace("_", " "))
+            self.assertEqual(rejecting.block_of(changed, 0) is not None, is_one == "yes", changed)
 
     def test_histories_of_the_model_are_taken(self) -> None:
         for seed, name in enumerate(NAMES):

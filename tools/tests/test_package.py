@@ -7,7 +7,6 @@ from __future__ import annotations
 import ast
 import collections
 import contextlib
-import importlib.util
 import io
 import json
 import os
@@ -22,11 +21,13 @@ from unittest import mock
 
 from tools.workbench import command, limits, progress
 from tools.workbench.benches import guests
-from tools.workbench.guest import damage, elf32, guestfile, made, model, rv32im
+from tools.workbench.checking import check, endure, facts, fuzz, refuse
+from tools.workbench.guest import elf32, guestfile, made, model, rv32im
 from tools.workbench.judging import rejecting
 from tools.workbench.reports import report, spoil
 from tools.workbench.running import delegation, program
-from .common import BY_HAND, FACTS, GUESTS, NAMES, ONE, ROOT, TEMPORARY, Case, built, elf, history, process, run, saved
+from .common import (BY_HAND, FACTS, GUESTS, NAMES, ONE, ROOT, TEMPORARY, Case, built, elf, history, process, rows, run,
+                     saved)
 
 
 FILES = [*sorted((ROOT / "tools").rglob("*.py")), ROOT / "workbench.py", ROOT / "tclocks-build"]
@@ -49,7 +50,7 @@ class Package(Case):
         entries = sorted(GUESTS.iterdir())
         self.assertLessEqual(len([path for path in entries if path.name != "out"]), 40)
         for path in entries:
-            self.assertTrue(path.suffix in (".c", ".S", ".elf") or path.name in command.EVERY
+            self.assertTrue(path.suffix in (".c", ".S", ".elf")
                             or path.name in ("facts.json", "Makefile", "README.md", "kit", "course", "out"), path)
 
     def test_help_lists_each_subcommand_with_a_line(self) -> None:
@@ -61,18 +62,8 @@ class Package(Case):
         self.assertEqual(process(sys.executable, "-m", "workbench", "--help", cwd=ROOT).stdout, done.stdout)
 
     def test_wrong_words(self) -> None:
-        for words, part in (((), "a subcommand is missing"), (("nobody",), "no subcommand 'nobody'"), (("--fast",), "'--fast'"),
-                            (("bench",), "bench is one of bench run, "), (("bench", "x"), "bench is one of")):
-            self.one_line(process(ROOT / "workbench", *words), 1, part)
-
-    def test_old_names(self) -> None:
-        words = elf("first"), "1", "1000", "0"
-        self.assertEqual(process(GUESTS / "simulate", *words).stdout, run("simulate", *words).stdout)
-        for name in command.EVERY:
-            path = ROOT / name.replace(" ", "/") if name.startswith("bench ") else GUESTS / name
-            if path.exists():
-                said = process(path, "--help").stdout.decode()
-                self.assertTrue(said.startswith(f"usage: workbench {name} "), path)
+        for words, part in rows("wrong-words"):
+            self.one_line(process(ROOT / "workbench", *words.split()), 1, part)
 
 
 class Shown(Case):
@@ -112,15 +103,25 @@ class WrongUses(Case):
              "finish": [elf("first")], "explore": [], "simulate": []}
     TOOLS = ("judge", "summary", "draw", "explain", "finish")
 
+    def used(self, line: str) -> subprocess.CompletedProcess[bytes]:
+        """Runs a tool by a line of words, in this checkout."""
+        return run(*(re.sub("^(guests|docs)/", rf"{ROOT}/\1/", word) for word in shlex.split(line)))
+
     def test_each_is_answered_by_one_line(self) -> None:
-        for line in (ROOT / "tools" / "tests" / "wrong-uses.txt").read_text().splitlines():
-            status, *words = shlex.split(line, comments=True) or ["-"]
-            if words:
-                with self.subTest(line=line):
-                    done = run(words[0], *(re.sub("^(guests|docs)/", rf"{ROOT}/\1/", word) for word in words[1:]))
-                    self.one_line(done, int(status))
-                    self.assertTrue(done.stderr.startswith(f"workbench {words[0]}".encode())
-                                    and not done.stdout, done)
+        for line in re.findall("(?m)^[^#].*", (ROOT / "tools" / "tests" / "wrong-uses.txt").read_text()):
+            with self.subTest(line=line):
+                done = self.used(line[2:])
+                self.one_line(done, int(line[0]))
+                self.assertRegex(done.stderr.decode(), f"^workbench {line.split()[1]}")
+                self.assertEqual(done.stdout, b"")
+
+    def test_what_right_ones_print(self) -> None:
+        for status, line, *texts in rows("uses"):
+            with self.subTest(line=line):
+                done = self.used(line)
+                self.assertEqual(done.returncode, int(status))
+                for text in texts:
+                    self.says(text, done)
 
     def test_standard_input_is_a_folder_or_closed(self) -> None:
         for tool in self.TOOLS:
@@ -154,14 +155,14 @@ class WrongUses(Case):
                 self.one_line(run(tool, *self.WORDS[tool], "-", given=f"{line}\nend\n"), 3)
 
     def test_numbers_that_the_program_refuses(self) -> None:
-        for words in ("workers 0 fuel 9 batch 0", "workers 9 fuel 9 batch 0", "workers 1 fuel 65537 batch 0",
-                      "workers 1 fuel 9 batch 257", "workers 01 fuel 9 batch 0", "workers 1 fuel +9 batch 0"):
-            text = f"tclocks 1\nguest threads 2 guards 1\nrun {words}\n"
+        for words in ("0 fuel 9 batch 0", "9 fuel 9 batch 0", "1 fuel 65537 batch 0", "1 fuel 9 batch 257",
+                      "01 fuel 9 batch 0", "1 fuel +9 batch 0"):
+            text = f"tclocks 2\nguest threads 2 guards 1\nrun workers {words}\n"
             self.one_line(run("judge", elf("first"), given=text), 3)
 
     def test_noise(self) -> None:
         for tool in self.TOOLS:
-            for noise in (b"", b"\0" * 1000, bytes(range(256)) * 50, b"tclocks 1\n" * 9, b"\n" * 9):
+            for noise in (b"", b"\0" * 1000, bytes(range(256)) * 50, b"tclocks 2\n" * 9, b"\n" * 9):
                 self.quiet(run(tool, *self.WORDS[tool], "-", given=noise), 5 if tool == "finish" else 1)
 
     def test_cut_in_the_middle(self) -> None:
@@ -197,14 +198,6 @@ class WrongUses(Case):
         path.unlink()
 
 
-def script(name: str) -> Any:
-    """A module of its own, in which a test may change what it likes."""
-    spec = importlib.util.find_spec(f"tools.workbench.checking.{name}")
-    module = importlib.util.module_from_spec(spec)  # type: ignore[arg-type]
-    spec.loader.exec_module(module)  # type: ignore[union-attr]
-    return module
-
-
 class Checks(Case):
     def test_help_has_no_effect(self) -> None:
         before = {path: path.stat().st_mtime_ns for path in (*GUESTS.rglob("*"), *(ROOT / "tools").rglob("*"))
@@ -219,12 +212,12 @@ class Checks(Case):
 
     def test_guests_that_are_drawn(self) -> None:
         """Each is a guest, and each damaged copy is one or is refused."""
-        draw = script("fuzz").Draw(7)
+        draw = fuzz.Draw(7)
         numbers = set()
         for _ in range(60):
             file = draw.guest()
-            guestfile.check(file)
-            for kind in damage.KINDS:
+            guestfile.GuestFile(file)
+            for kind in fuzz.KINDS:
                 try:
                     guestfile.GuestFile(kind(draw, file))
                 except guestfile.Refused as refused:
@@ -232,13 +225,12 @@ class Checks(Case):
         self.assertGreater(len(numbers), 8)
 
     def test_the_largest_guest(self) -> None:
-        file = script("endure").sleeping(32)
-        guestfile.check(file)
+        file = endure.sleeping(32)
+        guestfile.GuestFile(file)
         self.assertEqual(sum(header.memory for header in elf32.headers(file) if header.type == elf32.LOAD),
                          limits.FILE_BYTES)
 
     def test_what_refuse_calls_wrong(self) -> None:
-        refuse = script("refuse")
         file = built(ONE, (0, 0), 1)
         text = run("finish", saved("one.elf", file), given=BY_HAND).stdout
         case = refuse.Case("a report", (), file, 0, None)
@@ -248,24 +240,23 @@ class Checks(Case):
         for other, part in ((ended._replace(kept=3), "not given back"), (ended._replace(said=b"no"), "said"),
                             (ended._replace(status=5), "status 5"), (ended._replace(written=text[:-1]), "written"),
                             (ended._replace(status=5, written=b""), "status 5"),
-                            (ended._replace(kept=None), "ended")):
-            self.assertIn(part, refuse.wrong_in(case, other, 2))
+                            (ended._replace(kept=None), "ended")):  # type: ignore[arg-type]
+            self.assertIn(part, str(refuse.wrong_in(case, other, 2)))
 
     def test_facts_are_computed_without_the_guest(self) -> None:
         for name in set(NAMES) - {"exit"}:
-            for key, value in getattr(script("facts"), name)().items():
+            for key, value in getattr(facts, name)().items():
                 self.assertEqual(value, FACTS[name][key], (name, key))
 
     def test_a_fact_that_does_not_hold_is_found(self) -> None:
-        check, known = script("check"), FACTS["first"]
-        machine = script("facts").run(model.Guest((GUESTS / "first.elf").read_bytes()), random.Random(1))
+        known = FACTS["first"]
+        machine = facts.run(model.Guest((GUESTS / "first.elf").read_bytes()), random.Random(1))
         check.check_facts(known, machine, check.AMPLE)
         for key, value in (("x10", [5, 8]), ("sections", [7]), ("ends", ["exit", "spent"]), ("turns", [51, 50])):
             with self.assertRaises(report.Wrong):
-                check.check_facts({**known, key: value}, machine, check.AMPLE)
+                check.check_facts({**known, key: value}, machine, check.AMPLE)  # type: ignore[dict-item]
 
     def test_runs_of_several_workers_and_with_adopted_sections_are_counted(self) -> None:
-        check = script("check")
         alone = BY_HAND.replace(" worker 1 ", " worker 0 ")
         shown = check.Shown()
         shown.add(alone.replace("kind adopted", "kind taken"))
@@ -278,10 +269,10 @@ class Checks(Case):
         self.assertEqual(str(shown), "4 runs, 2 by two workers or more, 2 with adopted sections (3 of them)")
 
     def test_a_contended_guest_must_show_delegation(self) -> None:
-        check, text = script("check"), history("counter", 1, 8, None)[1]
-        check.check_run = lambda file, known, words: text
+        text = history("counter", 1, 8, None)[1]
         said = io.StringIO()
-        with mock.patch.object(rejecting, "give_back", lambda *_: ()), contextlib.redirect_stdout(said):
+        with mock.patch.object(rejecting, "give_back", lambda *_: ()), contextlib.redirect_stdout(said), \
+                mock.patch.object(check, "check_run", lambda *_: text):
             passed = [check.check(name, FACTS[name])[0] for name in ("counter", "first")]
         self.assertEqual(passed, [False, True])
         self.assertEqual(said.getvalue(), "counter: FAILED: one worker alone ran in each of 125 runs\n"
@@ -302,7 +293,7 @@ class Checks(Case):
             return of_nodes(text) if words[0] == "nodes" else (0, text)  # type: ignore[no-any-return]
         with mock.patch.object(program, "run", answer), mock.patch.object(program, "keep", lambda name, _: f"out/{name}"), \
                 contextlib.redirect_stdout(io.StringIO()) as said:
-            passed, answers = script("check").check("first", FACTS["first"])
+            passed, answers = check.check("first", FACTS["first"])
         return passed, said.getvalue(), answers
 
     def test_a_run_by_nodes_is_judged_as_a_run(self) -> None:
@@ -333,7 +324,6 @@ class Checks(Case):
             self.assertRegex(said, rf"^first: FAILED: run 1 20000 0: {wrong}.*to the history in out/check-first.txt\n$")
 
     def test_each_reason_must_come(self) -> None:
-        check = script("check")
         answers = collections.Counter({reason: 1 for reason in limits.REASONS})
         for missing in (None, *limits.REASONS):
             with contextlib.redirect_stdout(io.StringIO()) as said:
@@ -358,26 +348,19 @@ class Bytes(Case):
                           (made.DATA, 8, 6, bytes((1, 2, 0, 0, 0, 0, 0, 0)))])
 
     def test_words_are_read_as_they_are_made(self) -> None:
-        """One word of each form, as the RISC-V manual and an assembler give them."""
-        for word, made_of, text in (
-                (0x00A585B3, ("add", 11, 11, 10), "add a1,a1,a0"), (0x40A585B3, ("sub", 11, 11, 10), "sub a1,a1,a0"),
-                (0xFFF30313, ("addi", 6, 6, -1), "addi t1,t1,-1"), (0x4032D293, ("srai", 5, 5, 3), "srai t0,t0,3"),
-                (0x0002A383, ("lw", 7, 5, 0), "lw t2,0(t0)"), (0x0072A023, ("sw", 7, 5, 0), "sw t2,0(t0)"),
-                (0xFC031CE3, ("bne", 6, 0, -40), "bne t1,zero,00100000"),
-                (0x000202B7, ("lui", 5, 0x20000), "lui t0,0x20"), (0x0040006F, ("jal", 0, 4), "jal zero,0010002c"),
-                (0x00008067, ("jalr", 0, 1, 0), "ret"), (0x02A5C5B3, ("div", 11, 11, 10), "div a1,a1,a0"),
-                (0x00000073, ("ecall",), "ecall"), (0x00100073, ("ebreak",), "ebreak")):
-            self.assertEqual(rv32im.encode(*made_of), word, made_of)  # type: ignore[arg-type]
-            self.assertEqual(rv32im.text(word, 0x00100028), text)
-        for word in (0, 0xFFFFFFFF, 0x00002067, 0x0000A0F3, 0x04000033):
-            self.assertIsNone(rv32im.decode(word))
+        for word, made_of, text in rows("instructions"):
+            name, *operands = made_of.split()
+            self.assertEqual(rv32im.encode(name, *map(int, operands)), int(word, 16), made_of)
+            self.assertEqual(rv32im.text(int(word, 16), 0x00100028), text)
+        for none in (0, 0xFFFFFFFF, 0x00002067, 0x0000A0F3, 0x04000033):
+            self.assertIsNone(rv32im.decode(none))
 
     def test_a_report_is_written_as_it_is_read(self) -> None:
         _, text = history("philosophers", 4, 8, 1)
         read = report.Report(text.splitlines(keepends=True))
-        lines = [block.line(2) for block in read.blocks()]
+        lines = [block.line() for block in read.blocks()]
         read.ends()
-        lines = report.header_lines(2, read.threads, read.guards, read.workers, read.fuel, read.batch) + lines
+        lines = report.header_lines(read.threads, read.guards, read.workers, read.fuel, read.batch) + lines
         lines += report.ending_lines(read.thread_ends, read.lock_ends)
         self.assertEqual("\n".join(lines) + "\n", text)
 

@@ -1,7 +1,7 @@
 """The numbers and words of docs/GUIDE.md, each in this place alone."""
 FILE_BYTES = 1048576  # of a guest's file, and of the memory that it asks for
 PROGRAM_HEADERS = 16
-THREADS = {1: 16, 2: 32}  # the most, by the version of a note or of a report
+THREADS = {1: 16, 2: 32}  # the most, by the version of a note
 GUARDS = {1: 16, 2: 32}
 GUARD_BYTES = 4, 65536  # the least and the most
 STACK = range(0x7FFFC000, 0x80000000)

@@ -2,6 +2,7 @@
 from __future__ import annotations
 
 import os
+import signal
 import sys
 import time
 from types import TracebackType
@@ -79,6 +80,13 @@ def say(text: str) -> None:
     """Prints a line while work goes on."""
     clear()
     print(text, flush=True)
+
+
+def heed_signals() -> None:
+    """Lets what is started be ended: a job in the background ignores some signals, and would hand that on."""
+    for one in (signal.SIGINT, signal.SIGHUP, signal.SIGTERM):
+        if signal.getsignal(one) == signal.SIG_IGN:
+            signal.signal(one, signal.SIG_DFL)
 
 
 def number(value: float) -> str:

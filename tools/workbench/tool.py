@@ -1,10 +1,8 @@
 """What the tools of this folder share: how they read, how they print, and how they end.
 
-Their statuses are those of the program: 0 done, 1 the words are wrong, 2 the input can't be
-read, 3 it isn't what it must be (refused, no report, not legal), 4 the output can't be written,
-5 memory was refused.
-Each status above 0 comes with one line on standard error.
-"""
+Their statuses are those of the program: 0 done, 1 the words are wrong, 2 the input can't be read, 3 it isn't what it
+must be (refused, no report, not legal), 4 the output can't be written, 5 memory was refused. Each status above 0 comes
+with one line on standard error."""
 from __future__ import annotations
 
 from pathlib import Path
@@ -52,10 +50,16 @@ def called(tool: str) -> str:
     return tool if "/" in tool else f"workbench {tool}".rstrip()
 
 
-def words(tool: str, description: str | None, *first: str) -> Words:
-    """The parser of a tool's words, with a guest's file and the numbers of a run where these come first."""
-    parser = Words(prog=called(tool), description=description, allow_abbrev=False,
-                   formatter_class=argparse.RawDescriptionHelpFormatter)
+def page(name: str) -> str:
+    """A page of help: of a subcommand, whose first line is what it does, or on what several of them have."""
+    return (Path(__file__).parent / "help" / f"{Path(name).name.replace(' ', '-')}.txt").read_text()
+
+
+def words(tool: str, *first: str, more: str | None = None) -> Words:
+    """The parser of a tool's words, with a guest's file and the numbers of a run where these come first. It says
+    what stands on the tool's page, and at the end what stands on another one."""
+    parser = Words(prog=called(tool), description=page(tool), epilog=page(more) if more else None,
+                   allow_abbrev=False, formatter_class=argparse.RawDescriptionHelpFormatter)
     if "guest" in first:
         parser.add_argument("guest", metavar="GUEST", help="the guest's file")
     for name, (least, most) in limits.RUN.items() if "run" in first else ():
@@ -74,6 +78,16 @@ def number(least: int, most: int) -> Callable[[str], int]:
         if not (word.isascii() and word.isdigit() and len(word) < 12 and least <= int(word) <= most):
             raise argparse.ArgumentTypeError(f"{word!r} is no number from {least} to {most}")
         return int(word)
+    return read
+
+
+def numbers(least: int, most: int) -> Callable[[str], list[int]]:
+    """A type of a word: numbers in these limits with commas between them, each once."""
+    def read(word: str) -> list[int]:
+        found = [*map(number(least, most), word.split(","))]
+        if len({*found}) < len(found):
+            raise argparse.ArgumentTypeError(f"{word!r} has a number twice")
+        return found
     return read
 
 
@@ -151,8 +165,6 @@ def run(name: str, main: Callable[[list[str]], int | None], words: list[str]) ->
         with contextlib.suppress(OSError, AttributeError):
             sys.stdout.flush()
         status = ended(name, trouble.status, str(trouble))
-    except BrokenPipeError:
-        status = ended(name, OUTPUT, "standard output: its reader has ended")
     except OSError as error:
         status = ended(name, OUTPUT, f"standard output: {error.strerror}")
     except KeyboardInterrupt:

@@ -1,6 +1,6 @@
 /* Counts one word up, ADDITIONS times in all, by THREADS threads beside one another, each of which multiplies a
    number of its own for some tens of nanoseconds behind each addition. What several threads take more than one is
-   what it costs that each block of a run is stamped by the one clock of its workers. bench/several compiles it
+   what it costs that each block of a run is stamped by the one clock of its workers. bench several compiles it
    and runs it.
 
    Usage: clock THREADS ADDITIONS */

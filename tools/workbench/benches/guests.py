@@ -2,8 +2,10 @@
 rv32im.py makes of mnemonics and operands."""
 from __future__ import annotations
 
-from typing import Any, Callable
+from pathlib import Path
+from typing import Any, Callable, Iterator
 import functools
+import re
 import struct
 
 from .. import limits, places
@@ -17,13 +19,10 @@ THREADS = 16
 ADD_ONE = "lw 5 8 0; addi 5 5 1; sw 5 8 0;"  # to the word at the address in register 8
 
 
-def elf(words: list[int], guards: int,
-        ranges: Any = ((DATA, b"", 16 * GUARD_BYTES),),
-        threads: int = THREADS) -> bytes:
+def elf(words: list[int], guards: int, ranges: Any = ((DATA, b"", 16 * GUARD_BYTES),), threads: int = THREADS) -> bytes:
     """The file of a guest whose threads, so many, all run these words, with this number of locks.
 
-    Each range is an address, the bytes that the file gives it, and a length; it is writable.
-    """
+    Each range is an address, the bytes that the file gives it, and a length; it is writable."""
     text = struct.pack(f"<{len(words)}I", *words)
     notes = elf32.note([(TEXT, thread) for thread in range(threads)],
                        [(DATA + number * GUARD_BYTES, GUARD_BYTES) for number in range(guards)])
@@ -37,25 +36,15 @@ def again(body: list[int], behind: str = "jal 0") -> list[int]:
     return body + code(f"{behind} {-4 * len(body)}")
 
 
-# The guests that run some code again and again: what they run once before, that code, and how many locks.
-LOOPS = {
-    # Arithmetic without locks, one block for each 4,096 turns.
-    "arithmetic": ("", "addi 5 5 1; slli 6 5 3; xor 7 7 6; add 8 8 7; srli 9 8 5; sub 12 9 5; and 13 12 8; "
-                   "sltu 14 13 12", 0),
-    # Loads and stores in each thread's own stack, beside 16 guards that nobody uses.
-    "memory": ("", "addi 8 2 -64;" + 4 * ADD_ONE, 16),
-    # One lock, and a short section that adds one to a word of its guard.
-    "hot-lock": (f"lui 8 {DATA}", f"LOCK 0; {ADD_ONE} UNLOCK 0", 1),
-    # The same, but each thread has a lock of its own: the one with its number.
-    "own-locks": (f"addi 9 10 0; slli 8 9 6; lui 7 {DATA}; add 8 8 7", f"LOCK x9; {ADD_ONE} UNLOCK x9", THREADS),
-    # Four locks, taken one in the other and given up again.
-    "nested-locks": ("", "LOCK 0; LOCK 1; LOCK 2; LOCK 3; UNLOCK 3; UNLOCK 2; UNLOCK 1; UNLOCK 0", 4),
-    # SLEEP and a jump: blocks of two turns.
-    "sleeps": ("addi 10 0 0; addi 17 0 3", "ecall", 0)}
+def loops() -> Iterator[tuple[str, str, str, int]]:
+    """The rows of loops.txt."""
+    text = Path(__file__).with_name("loops.txt").read_text().replace("ADD_ONE", ADD_ONE).replace("DATA", str(DATA))
+    for line in re.findall("(?m)^[^#].*$", text):
+        name, before, body, guards = line.split(" | ")
+        yield name, before, body, int(guards)
 
 
-def loop(name: str) -> bytes:
-    before, body, guards = LOOPS[name]
+def loop(before: str, body: str, guards: int) -> bytes:
     return elf(code(before) + again(code(body)), guards)
 
 
@@ -65,8 +54,7 @@ def mailboxes(sections: int = 1500) -> bytes:
     some arithmetic before it. The thread's number is in x9, its guard's address in x8."""
     base = code(f"addi 9 10 0; slli 8 9 6; lui 7 {DATA}; add 8 7 8")
     wait = again(code("LOCK x9; lw 5 8 0; UNLOCK x9; bne 5 0 20; SLEEP 0")) + code("EXIT 0")
-    work = again(code(8 * "addi 12 12 1; xor 13 13 12;" + f"LOCK 0; {ADD_ONE} UNLOCK 0; addi 20 20 -1"),
-                 "bne 20 0")
+    work = again(code(8 * "addi 12 12 1; xor 13 13 12;" + f"LOCK 0; {ADD_ONE} UNLOCK 0; addi 20 20 -1"), "bne 20 0")
     post = again(code(f"LOCK x21; addi 8 8 {GUARD_BYTES}; sw 23 8 0; UNLOCK x21; addi 21 21 1"), "bne 21 24")
     return elf([*base, *code(f"beq 9 0 {4 * (1 + len(wait))}"), *wait, *code(f"addi 20 0 {sections}"), *work,
                 *code(f"addi 21 0 1; addi 23 0 1; addi 24 0 {THREADS}"), *post, *code("EXIT 0")], THREADS)
@@ -96,7 +84,7 @@ def many_ranges() -> bytes:
 
 
 GUESTS: dict[str, Callable[[], bytes]] = {
-    **{name: functools.partial(loop, name) for name in LOOPS},
+    **{name: functools.partial(loop, *row) for name, *row in loops()},
     "mailboxes": mailboxes, "shortest-blocks": shortest_blocks,
     # The same with as many threads and locks as there can be: the most blocks with the longest lines.
     "longest-history": lambda: shortest_blocks(limits.THREADS[2], limits.GUARDS[2]), "many-ranges": many_ranges,

@@ -1,6 +1,6 @@
 /* Runs a loop in each of THREADS threads beside one another. The loop shares nothing, reads and writes registers
    alone, and keeps all that a processor has busy, so several threads take longer than one only as far as the host has
-   fewer processors than threads, or such as share a core. bench/several compiles it and runs it.
+   fewer processors than threads, or such as share a core. bench several compiles it and runs it.
 
    Usage: loop THREADS TURNS */
 #include <pthread.h>

@@ -1,10 +1,4 @@
-"""Runs contended guests by `run` and by `nodes`, and prints the table of bench/README.md: what the order of the
-waiters changes. It is no test: it asserts no time.
-
-Seconds are the median of some runs, all else is their mean; the words take turns, so that other work on the machine
-is the same for all. Taken, adopted and granted are sections by their kind; changes, changes of node and other node
-are what ./workbench sweep calls `changes`, `changes_of_node` and `other_node`.
-"""
+"""Contended guests by `run` and by `nodes`: the table of bench/README.md."""
 from __future__ import annotations
 
 import argparse
@@ -32,7 +26,7 @@ def measure(name: str, settings: list[sweep.Setting], to: table.Table) -> None:
 
 
 def main(words: list[str]) -> int:
-    parser = process.words("nodes", __doc__, OWN + OF_BENCH, "all", "run", runs=(5, "of each order"))
+    parser = process.words("nodes", OWN + OF_BENCH, "all", "run", runs=(5, "of each order"))
     asked = process.parsed(parser, words, OWN + OF_BENCH)
     settings = sorted(sweep.settings_of(argparse.Namespace(
         workers=[asked.workers], batch=[asked.batch], fuel=asked.fuel, nodes=NODES, bound=BOUNDS, runs=asked.runs), "program"),

@@ -8,7 +8,7 @@
 
    It prints a report without the lines of the blocks, and with the word history a whole one: that of a
    run in which one worker took each section. So `replay` of the program must accept these lines and print
-   the same report, which is how bench/peer knows that the peer runs guests as it must. FUEL is that of
+   the same report, which is how bench peer knows that the peer runs guests as it must. FUEL is that of
    each thread. A file that is no guest is status 3, a want of memory or of threads of the host 5. */
 #include <pthread.h>
 #include <stdatomic.h>

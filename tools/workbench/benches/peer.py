@@ -1,15 +1,4 @@
-"""Runs guests by the program and by a peer (peer.c: the same guests under ordinary pthread mutexes, with a log of
-blocks), in turn and on one processor, and prints a table of what each took. It is no test: it asserts no time; but the
-peer must run guests as the program does.
-
-Seconds and processor seconds are the least of some runs each. The program is run with one worker and the batch
-limit 0; the peer once with its log alone, and once with the text of the history too, which the program's report has. `To
-peer` and `to peer with text` are the processor seconds of the program in those of the peer.
-
-Before a guest is measured, the peer's history is given to `replay` of the program, which must print the peer's report;
-and how threads end, sections, and the bytes of guards must be those of the program's run, or of guests/facts.json where
-the guest is one of guests/.
-"""
+"""Guests by the program and by a peer under ordinary pthread mutexes (peer.c), in turn and on one processor."""
 from __future__ import annotations
 
 from argparse import Namespace
@@ -97,8 +86,7 @@ def measure(name: str, asked: Namespace, peer: Path, to: table.Table) -> list[fl
 
 def main(words: list[str]) -> int:
     known = (*guests.GUESTS, *FACTS)
-    parser = process.words("peer", __doc__, known, "all", fuel=(limits.RUN["fuel"][1], "of each thread"),
-                           runs=(5, "of each"))
+    parser = process.words("peer", known, "all", fuel=(limits.RUN["fuel"][1], "of each thread"), runs=(5, "of each"))
     cores = os.sched_getaffinity(0)
     parser.number("-c", (0, 9999), "the processor on which all runs (the last one)", max(cores), "CORE", dest="core")
     asked = process.parsed(parser, words, known, cores)

@@ -10,7 +10,7 @@ import subprocess
 import tempfile
 import time
 from pathlib import Path
-from typing import IO, Any, Callable, Iterable, Iterator, NamedTuple
+from typing import IO, Any, Iterable, Iterator, NamedTuple
 
 from .. import limits, tool
 from ..running import program
@@ -29,12 +29,11 @@ class Took(NamedTuple):
     peak: int
 
 
-def words(bench: str, doc: str | None, known: Iterable[str], usual: str, *first: str,
-          **numbers: Any) -> tool.Words:
+def words(bench: str, known: Iterable[str], usual: str, *first: str, **numbers: Any) -> tool.Words:
     """The parser of a bench's words: guests, the program, where the raw results go; and numbers of a run, as -b or
     -f, or -r for how many runs there are: of each what is usual (a list where it may be several, as 1,4), what it
     says, and another least one."""
-    parser = tool.words(f"bench {bench}", doc, *first)
+    parser = tool.words(f"bench {bench}", *first)
     parser.add_argument("guests", metavar="GUEST", nargs="*", help=f"{', '.join(known)}; {usual} when left out")
     parser.add_argument("-p", dest="program", metavar="PROGRAM", type=Path,
                         help="the program to measure (the one that ./tclocks-build has built)")
@@ -44,18 +43,13 @@ def words(bench: str, doc: str | None, known: Iterable[str], usual: str, *first:
         some = least[0] if least else low, high
         if isinstance(given, list):
             parser.add_argument(f"-{name[0]}", dest=name, metavar=f"{name.upper()},..", default=given,
-                                type=listed(tool.number(*some)), help=f"{says} ({','.join(map(str, given))})")
+                                type=tool.numbers(*some), help=f"{says} ({','.join(map(str, given))})")
         else:
             parser.number(f"-{name[0]}", some, f"{says} ({given})", given, name.upper(), dest=name)
     return parser
 
 
-def listed(one: Callable[[str], int]) -> Callable[[str], list[int]]:
-    return lambda word: [*map(one, word.split(","))]
-
-
-def parsed(parser: tool.Words, given: list[str], known: Iterable[str],
-           cores: Iterable[int] = ()) -> argparse.Namespace:
+def parsed(parser: tool.Words, given: list[str], known: Iterable[str], cores: Iterable[int] = ()) -> argparse.Namespace:
     """What the words ask for, of guests that are known; the program that is asked for is the one that runs
     from here on. Trouble where it is not there, or was not built."""
     asked = parser.parse_intermixed_args(given)

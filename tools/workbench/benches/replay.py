@@ -1,11 +1,4 @@
-"""Runs guests by one worker, gives each history back to `replay` and to `profile`, and prints what each took.
-It is no test: it asserts no time; but the report of `replay` must be that of the run.
-
-For each guest there are blocks and bytes of the history; processor seconds of the run, of a reading of the
-history (its last line is wrong, which is told when all lines are read, and before a block is run), of `replay`
-and of `profile`; megabytes that are read in a second; how many times the seconds and the peak memory of the run
-`replay` takes, and how many times the seconds of `replay` `profile` does; and the peaks in megabytes.
-"""
+"""Runs by one worker, whose histories are given back to `replay` and to `profile`."""
 from __future__ import annotations
 
 from argparse import Namespace
@@ -19,10 +12,9 @@ from . import guests, process, table
 from .table import Failed
 
 USUAL = "sleeps", "hot-lock", "nested-locks", "shortest-blocks", "longest-history"
-COLUMNS = (
-    ("Guest",), ("Blocks", ","), ("Bytes", ","), ("Run", ".3f"), ("Reading", ".3f"), ("MB/second", ".0f"),
-    ("Replay", ".3f"), ("Profile", ".3f"), ("Replay/run", ".2f"), ("Profile/replay", ".2f"), ("Run MB", ".0f"),
-    ("Replay MB", ".0f"), ("Profile MB", ".0f"), ("Memory", ".2f"))
+COLUMNS = (("Guest",), ("Blocks", ","), ("Bytes", ","), ("Run", ".3f"), ("Reading", ".3f"), ("MB/second", ".0f"),
+           ("Replay", ".3f"), ("Profile", ".3f"), ("Replay/run", ".2f"), ("Profile/replay", ".2f"), ("Run MB", ".0f"),
+           ("Replay MB", ".0f"), ("Profile MB", ".0f"), ("Memory", ".2f"))
 
 
 def least(words: tuple[Any, ...], given: IO[bytes], status: int, runs: int) -> tuple[float, float, IO[bytes]]:
@@ -70,10 +62,9 @@ def measure(name: str, fuel: int, asked: Namespace, to: table.Table) -> None:
 
 
 def main(words: list[str]) -> int:
-    parser = process.words(
-        "replay", __doc__, guests.GUESTS, ", ".join(USUAL), batch=(0, "batch limit"),
-        fuel=([limits.RUN["fuel"][1]], "of each thread; of several numbers each gets a line"),
-        runs=(1, "runs of each, of which the least numbers are printed"))
+    parser = process.words("replay", guests.GUESTS, ", ".join(USUAL), batch=(0, "batch limit"),
+                           fuel=([limits.RUN["fuel"][1]], "of each thread; of several numbers each gets a line"),
+                           runs=(1, "runs of each, of which the least numbers are told"))
     asked = process.parsed(parser, words, guests.GUESTS)
     lines = [(name, fuel) for name in asked.guests or USUAL for fuel in asked.fuel]
     to = table.Table("replay", asked, COLUMNS)

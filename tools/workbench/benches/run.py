@@ -1,9 +1,4 @@
-"""Runs the largest guests and prints what each took. It is no test: it asserts no time.
-
-Guests of 16 threads are run, and for each there are turns, blocks, seconds, turns per second, processor
-seconds, peak memory in bytes, bytes of the report, and the processor's instructions for each turn and
-for the start.
-"""
+"""What the largest guests take, with the instructions of the processor."""
 from __future__ import annotations
 
 from argparse import Namespace
@@ -21,9 +16,8 @@ from . import guests, process, table
 Counter = Tuple[List[str], "re.Pattern[bytes]"]
 # The two fuels whose difference leaves the start out.
 FEW, MANY = 512, 1024
-COLUMNS = (
-    ("Guest",), ("Workers",), ("Turns", ","), ("Blocks", ","), ("Seconds", ".3f"), ("Turns/second", ",.0f"),
-    ("Processor", ".3f"), ("Peak memory", ","), ("Report bytes", ","), ("Per turn", ".0f"), ("Start", ",.0f"))
+COLUMNS = (("Guest",), ("Workers",), ("Turns", ","), ("Blocks", ","), ("Seconds", ".3f"), ("Turns/second", ",.0f"),
+           ("Processor", ".3f"), ("Peak memory", ","), ("Report bytes", ","), ("Per turn", ".0f"), ("Start", ",.0f"))
 
 
 def counter() -> Counter | None:
@@ -79,7 +73,7 @@ def measure(name: str, workers: int, asked: Namespace, how: Counter | None, to: 
 
 def main(words: list[str]) -> int:
     parser = process.words(
-        "run", __doc__, guests.GUESTS, "all", workers=([1], "1 to 8; of several numbers, as 1,4, each gets a line"),
+        "run", guests.GUESTS, "all", workers=([1], "1 to 8; of several numbers, as 1,4, each gets a line"),
         batch=(0, "batch limit"), fuel=(limits.RUN["fuel"][1], "of each thread"),
         runs=(1, "runs, of which the fastest is printed"))
     parser.add_argument("-o", dest="folder", metavar="FOLDER", type=Path,

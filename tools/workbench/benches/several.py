@@ -1,15 +1,5 @@
-"""Runs guests by several numbers of workers in turn, and prints a table of the speed-up by more workers. It is no
-test: it asserts no time.
-
-Seconds are those of the whole process with its report; processor seconds are the sum over all processors. The table has
-the least of some runs, or with -m the median. The ratios divide the most workers by the fewest. Three columns need a C
-compiler. Clock estimates contention on the shared clock: the extra processor seconds of the most workers over one for an
-atomic increment a block. Loop says how free the processors are: the time of a loop on registers by as many threads as the
-most workers, to that by as many as the fewest; 1.00 if each thread has a core of its own. Shared loop bounds the first
-ratio: such a loop, as long as the guest, whose turns the threads share. With -q a round counts only if the loops before
-and behind it were that close; the last column counts such rounds. If processors change their speed from run to run, -m is
-fairer. A processor may be faster while others are idle; with -e loops keep all of them busy in each run.
-"""
+"""Runs by several numbers of workers in turn, with loops before, behind and beside them that tell how free the
+processors are."""
 from __future__ import annotations
 
 from argparse import Namespace
@@ -126,7 +116,7 @@ def measure(name: str, asked: Namespace, clock: Path | None, to: table.Table) ->
 
 def main(words: list[str]) -> int:
     parser = process.words(
-        "several", __doc__, guests.GUESTS, ", ".join(USUAL), workers=([1, 2, 4], "1 to 8 each"),
+        "several", guests.GUESTS, ", ".join(USUAL), workers=([1, 2, 4], "1 to 8 each"),
         batch=(8, "batch limit"), fuel=(limits.RUN["fuel"][1], "of each thread"), runs=(9, "of each"))
     parser.add_argument("-q", dest="quiet", metavar="NUMBER", type=float,
                         help="count only rounds before and after which the number of the column Loop is at most this, as 1.1")

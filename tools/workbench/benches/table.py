@@ -84,11 +84,8 @@ def spread(ratios: dict[str, float]) -> str:
             f"{statistics.median(ratios.values()):.2f}")
 
 
-DOC = """Prints the table of a file of raw results, as `./workbench bench NAME --results FILE` writes it."""
-
-
 def main(words: list[str]) -> None:
-    parser = tool.words("bench table", DOC)
+    parser = tool.words("bench table")
     parser.add_argument("file", metavar="FILE", help="of raw results; - is standard input")
     asked = parser.parse_args(words)
     try:

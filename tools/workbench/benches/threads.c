@@ -1,5 +1,5 @@
 /* Refuses threads to a program that is started with this library in LD_PRELOAD, as a host does that has
-   no more. bench/together compiles it and starts the program.
+   no more. bench together compiles it and starts the program.
 
    THREADS says how many threads the program gets beside its first one; all that it asks for later are
    refused. For each of these a byte goes to the descriptor THREADS_TELL. */

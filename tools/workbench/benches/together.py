@@ -1,10 +1,4 @@
-"""Makes many runs of short guests by several workers, and prints a table of how often the workers did run together.
-It is no test: it asserts no time; but each run must end with status 0.
-
-The table says in how many runs two workers or more ran blocks, and in how many a section was adopted; and the median
-and the least milliseconds of the whole process. Then the same where the host gives the program no thread beside its first
-one, and where it gives one: a library in LD_PRELOAD (threads.c) refuses all others. The three kinds of runs take turns.
-"""
+"""Many short runs by several workers, also where the host refuses threads (threads.c)."""
 from __future__ import annotations
 
 import os
@@ -78,7 +72,7 @@ def measure(host: Host, name: str, workers: int, runs: int, to: table.Table) -> 
 
 def main(words: list[str]) -> int:
     known = (*OWN, *guests.GUESTS)
-    parser = process.words("together", __doc__, known, ", ".join(OWN),
+    parser = process.words("together", known, ", ".join(OWN),
                            workers=([4, 8], "2 to 8; of several numbers each gets lines", 2), runs=(40, "of each"))
     asked = process.parsed(parser, words, known)
     with tempfile.TemporaryDirectory() as folder:

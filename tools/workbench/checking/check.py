@@ -1,22 +1,5 @@
-"""Runs tclocks over each guest and checks what it prints, and tests the tools of this folder.
-
-Each report is compared whole with model.py, which runs the printed blocks in their order under
-ordinary mutexes, and with the batch rule; then with facts.json. What one worker does is
-determined: its report must be the model's, to the last byte. Runs by `nodes` are judged as those of
-`run` are, but for the model's bytes. A run with little fuel is cut
-in the middle: its report must be as legal, and each thread whose number of turns is known ends
-as stated where the fuel is enough, else as spent. Of each guest it counts in how many runs two
-workers or more ran blocks, and in how many sections were adopted; where many threads of a guest
-want one lock again and again, there must be such runs.
-
-The history of each report is given back: `replay` must print that very report, and `profile` the
-model's numbers. Histories that were changed are given to both too, and must be rejected at the line
-and for the reason that the model has (rejecting.py), or be taken as it does; in all guests together
-each of the seven reasons must come.
-
-The tests of the tools, in tools/tests, need no program; the word `tools` runs them alone. The word `types` runs the
-type checker and the linter over the tools, where they are there (mypy, pyflakes3).
-"""
+"""Checks what the program prints of each guest against the model, the batch rule and facts.json, and runs the tests
+of the tools and the type checker."""
 from __future__ import annotations
 
 import collections
@@ -178,8 +161,8 @@ PARTS = {"tools": check_tools, "types": check_types}
 
 def main(words: list[str]) -> int | None:
     facts = json.loads((places.GUESTS / "facts.json").read_text())
-    parser = tool.words("check", __doc__)
-    parser.add_argument("names", metavar="tools | types | GUEST", nargs="*", help="only these")
+    parser = tool.words("check")
+    parser.add_argument("names", metavar="tools | types | GUEST", nargs="*", help="these alone")
     names = parser.parse_args(words).names or ["tools", *facts]
     unknown = [name for name in names if name not in (*facts, *PARTS)]
     if unknown:

@@ -1,7 +1,4 @@
-"""Prints the trusted definitions: the definitions, types and constants on which the contract of the top call depends.
-
-It follows the imports of the specs, beginning with the contract of `tclocks`. Of each spec file it prints what other
-files or the contract cite; what else these definitions need is beside them in the same file."""
+"""The words on which the contract of the top call rests, found by the imports of the specs."""
 from __future__ import annotations
 
 import re
@@ -158,6 +155,6 @@ def believed() -> dict[str, set[str]]:
 
 
 def main(given: list[str]) -> None:
-    tool.words("definitions", __doc__).parse_args(given)
+    tool.words("definitions").parse_args(given)
     for place, names in believed().items():
         print(f"{place}: {', '.join(sorted(names))}")

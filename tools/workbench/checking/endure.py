@@ -1,14 +1,4 @@
-"""Runs tclocks many times and under faults of the host, and checks what it leaves behind.
-
-1000 consecutive runs unless RUNS is given; the largest guest on 8 workers; a reader that ends in the
-middle, a full disk, closed standard streams, little memory, and a signal in the middle of a run; and
-a replay to a full disk, in little memory, and after more bytes than are allowed.
-Each must end as docs/GUIDE.md says, and leave no process and no file. The peak memory of the last
-of these runs must be that of the first ones, and that of the largest guest no more than
-bench/README.md says.
-
-It needs Linux and the built program, and takes about a minute.
-"""
+"""Runs of the program in bad surroundings."""
 from __future__ import annotations
 
 import contextlib
@@ -136,24 +126,18 @@ def reader_that_ends(place: Place, _: int) -> str:
     return "status 4"
 
 
-def full_disk(place: Place, _: int) -> str:
-    with open("/dev/full", "wb") as full:
-        for words, status in ((COUNTING, 4), (("stop",), 1)):
-            done = place.run(made.counting(2), words, stdout=full)[0]
-            need(done == status, f"{' '.join(words)}: status {done}, not {status}")
-    return "status 4, and 1 for the usage line"
-
-
-def closed_streams(place: Place, _: int) -> str:
+def full_and_closed_streams(place: Place, _: int) -> str:
     place.guest.write_bytes(made.counting(2))
-    for closed, status in (("<&-", 2), (">&-", 4), ("2>&-", 0), ("<&- >&-", 2), (">&- 2>&-", 4), ("<&- >&- 2>&-", 2)):
-        script = f'exec "$0" "$@" < "$FILE" {closed}'
-        done = subprocess.run(["sh", "-c", script, place.program, *COUNTING], cwd=place.empty,
+    for streams, words, status in (
+            (">/dev/full", COUNTING, 4), (">/dev/full", ("stop",), 1), ("<&-", COUNTING, 2), (">&-", COUNTING, 4),
+            ("2>&-", COUNTING, 0), ("<&- >&-", COUNTING, 2), (">&- 2>&-", COUNTING, 4), ("<&- >&- 2>&-", COUNTING, 2)):
+        script = f'exec "$0" "$@" < "$FILE" {streams}'
+        done = subprocess.run(["sh", "-c", script, place.program, *words], cwd=place.empty,
                               capture_output=True, check=False, env={"FILE": str(place.guest)})
-        need(done.returncode == status, f"{closed}: status {done.returncode}, not {status}")
-        need(not done.stderr, f"{closed}: it said {done.stderr!r}")
-        need(done.stdout.endswith(b"end\n") == (status == 0), f"{closed}: it wrote {len(done.stdout)} bytes")
-    return "status 2 without standard input, 4 without standard output"
+        need(done.returncode == status, f"{streams}: status {done.returncode}, not {status}")
+        need(not done.stderr, f"{streams}: it said {done.stderr!r}")
+        need(done.stdout.endswith(b"end\n") == (status == 0), f"{streams}: it wrote {len(done.stdout)} bytes")
+    return "status 2 without standard input, 4 without standard output or on a full disk, 1 there for the usage line"
 
 
 def limit(megabytes: int) -> Callable[[], None]:
@@ -173,9 +157,7 @@ def little_memory(place: Place, _: int) -> str:
 
 
 def signals(place: Place, _: int) -> str:
-    for number in (signal.SIGINT, signal.SIGTERM, signal.SIGHUP):
-        if signal.getsignal(number) == signal.SIG_IGN:  # as in the background, and handed on
-            signal.signal(number, signal.SIG_DFL)
+    progress.heed_signals()
     file = sleeping(8)
     for number in (signal.SIGINT, signal.SIGTERM, signal.SIGHUP, signal.SIGKILL):
         for delay in (0.001, 0.03, 0.3):
@@ -208,7 +190,7 @@ def histories(place: Place, _: int) -> str:
     return "the report of the run, status 4 and 6 on a full disk, 5 in 16 MB, 3 where it is too long"
 
 
-TRIALS = (runs_in_a_row, largest_guest, reader_that_ends, full_disk, closed_streams, little_memory, signals, histories)
+TRIALS = (runs_in_a_row, largest_guest, reader_that_ends, full_and_closed_streams, little_memory, signals, histories)
 
 
 def tried(trial: Callable[[Place, int], str], folder: pathlib.Path, runs: int) -> bool:
@@ -223,7 +205,7 @@ def tried(trial: Callable[[Place, int], str], folder: pathlib.Path, runs: int) -
 
 
 def main(words: list[str]) -> int | None:
-    parser = tool.words("endure", __doc__)
+    parser = tool.words("endure")
     parser.number("runs", (1, 1_000_000), usual=1000, metavar="RUNS", nargs="?")
     runs, passed = parser.parse_args(words).runs, 0
     program.need()

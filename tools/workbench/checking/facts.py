@@ -1,13 +1,9 @@
-"""Writes facts.json: what holds of each guest in every interleaving.
-
-Ends, exit codes, guarded bytes, sections and broken flags are computed here from what the
-sources mean; no guest code is run for them. Turns are counted by model.py. Then each guest
-is run by model.py in interleavings drawn at random, and the facts must hold in all of them.
-"""
+"""Facts of each guest, from what the sources mean."""
 from __future__ import annotations
 
 import contextlib
 import functools
+import itertools
 import json
 import operator
 import random
@@ -131,8 +127,7 @@ def broken() -> dict[str, list[Any]]:
     markers = [0, 1, 2, 2, 3, 4]  # the thread that marks each lock and ends while it holds it
     guards = [words(0xA0000000 + thread, 15) + "." * 8 for thread in markers]
     ends = ["fault 5", "fault 4", "fault 6", "spent", "exit"] + ["exit"] * 3
-    return facts(ends, [None] * 4 + [5] + [None] * 3, guards + [words(0, 15, 0)],
-                 [16] * 6 + [15], [1] * 6 + [0])
+    return facts(ends, [None] * 4 + [5] + [None] * 3, guards + [words(0, 15, 0)], [16] * 6 + [15], [1] * 6 + [0])
 
 
 def faults() -> dict[str, list[Any]]:
@@ -162,7 +157,7 @@ def run(guest: model.Guest, chance: random.Random) -> model.Machine:
 
 
 def main(given: list[str]) -> None:
-    tool.words("facts", __doc__).parse_args(given)
+    tool.words("facts").parse_args(given)
     table = {"exit": facts(["exit"], [0], pc=[0x10058])}
     for known_of in first, counter, bank, philosophers, ring, buffer, sleepers, matrix, sensors, stale, broken, faults:
         table[known_of.__name__] = known_of()
@@ -175,10 +170,8 @@ def main(given: list[str]) -> None:
                   for machine in machines]
         same = all(count == counts[0] for count in counts)
         known["turns"] = counts[0] if same else [None] * len(counts[0])
-        for machine in machines:
-            wrong = list(model.differences(known, machine))
-            if wrong:
-                raise tool.Trouble(tool.WRONG, f"{name}: {wrong[0]}")
+        for wrong in itertools.chain(*(model.differences(known, machine) for machine in machines)):
+            raise tool.Trouble(tool.WRONG, f"{name}: {wrong}")
     lines = [f' "{name}": {{\n' + ",\n".join(f'  "{key}": {json.dumps(value)}'
              for key, value in known.items()) + "\n }" for name, known in table.items()]
     tool.write_file(places.GUESTS / "facts.json", "{\n" + ",\n".join(lines) + "\n}\n")

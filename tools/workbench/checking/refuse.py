@@ -1,16 +1,4 @@
-"""Refuses each allocation of tclocks in turn, and looks at how it ends.
-
-It runs GUEST, or a guest whose two threads count under one lock, with W workers, fuel F and batch
-limit B, or 2, 2000 and 8; then it gives the history of a run to `replay` and to `profile`, and to `replay`
-without its last byte; then words that ask for nothing, and a file that is refused. Of each the
-K-th allocation alone is refused, and then the K-th and all after it, for K = 1, 2, 3 and so on, until
-K is past the greatest number of allocations that a run had. With several workers they come in another
-order each time, so each number has its turn five times. A run must end with status 5 and nothing
-written, or write all that it writes without a refusal, as a report that is legal; and it must give back
-as much memory as such a run. A thread of the host counts as an allocation.
-
-It needs Linux with the GNU C library, a C compiler (cc) and the built program.
-"""
+"""Runs of the program in which allocations are refused (refuse.c)."""
 from __future__ import annotations
 
 import collections
@@ -114,7 +102,7 @@ def refuse_each(library: pathlib.Path, case: Case, times: int, later: bool) -> t
 
 
 def asked(given: list[str]) -> tuple[tuple[str, ...], bytes]:
-    parser = tool.words("refuse", __doc__)
+    parser = tool.words("refuse")
     for (name, some), usual in zip(limits.RUN.items(), (2, 2000, 8)):
         parser.number(name, some, usual=usual, metavar=name[0].upper(), nargs="?")
     parser.add_argument("guest", metavar="GUEST", nargs="?", help="a guest's file")

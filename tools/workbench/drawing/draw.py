@@ -1,11 +1,4 @@
-"""Draws the timeline of a report: lanes by thread, by worker and by lock over the stamps.
-
-It prints an SVG, which any browser shows; details are under the pointer. With --text it draws for a
-terminal. With --trace it prints the trace event format, which Perfetto (ui.perfetto.dev) and
-Chrome's viewer open. With --page it prints a page of HTML that steps through the run. Where the
-guest's file is given, threads and locks have the names of its symbols, and the page shows registers
-and guarded bytes.
-"""
+"""What is drawn of a report, and which blocks of it."""
 from __future__ import annotations
 
 from argparse import Namespace
@@ -41,7 +34,7 @@ def window(asked: Namespace, count: int) -> tuple[int, int]:
 
 
 def main(words: list[str]) -> None:
-    parser = tool.words("draw", __doc__)
+    parser = tool.words("draw")
     parser.report()
     forms = parser.add_mutually_exclusive_group()
     forms.add_argument("--text", action="store_const", dest="form", const=textlanes.show, help="for a terminal")

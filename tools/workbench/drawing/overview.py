@@ -144,6 +144,14 @@ class Overview:
                 self.bars(column, f"{head}: {said}", top + LANE, LANE, shares, colours)
         self.picture.add("", LANE_STEP)
 
+    def lanes(self, title: str, items: Any, heads: list[str], rows: list[list[list[int]]], colours: Any, names: Any,
+              highest: float = 1) -> None:
+        """Lanes below one another, with their title and the stamps."""
+        self.head(title, items)
+        for head, row in zip(heads, rows):
+            self.lane(head, row, colours, names, highest)
+        self.stamps()
+
     def draw(self) -> svg.Picture:
         columns, picture = self.columns, self.picture
         blocks = columns.last - columns.first + 1
@@ -172,30 +180,24 @@ class Overview:
 
     def draw_locks(self) -> None:
         workers = range(self.text.workers)
-        names = [f"worker {worker}" for worker in workers]
-        self.head("Which worker has each lock:", [("".join(svg.worker_parts(0, 0, worker)), names[worker])
-                                                  for worker in workers])
-        for lock in range(self.text.guards):
-            self.lane(self.names.lock(lock), [[has[lock, worker] for worker in workers] for has in self.columns.has],
-                      svg.WORKERS, names)
-        self.stamps()
+        _, names, locks = self.names.lanes()
+        self.lanes("Which worker has each lock:", [("".join(svg.worker_parts(0, 0, worker)), names[worker])
+                                                   for worker in workers], locks,
+                   [[[has[lock, worker] for worker in workers] for has in self.columns.has]
+                    for lock in range(self.text.guards)], svg.WORKERS, names)
 
     def draw_workers(self) -> None:
         locks, columns = range(-1, self.text.guards), self.columns
-        names = ["without a lock", *(self.names.lock(lock) for lock in locks[1:])]
+        _, workers, names = self.names.lanes()
+        names = ["without a lock", *names]
         colours = [svg.PLAIN, *(svg.fill(lock) for lock in locks[1:])]
         rows = [[[ran[worker, lock] for lock in locks] for ran in columns.workers] for worker in range(self.text.workers)]
         highest = max(sum(values) / columns.size(column) for row in rows for column, values in enumerate(row))
-        self.head(f"Blocks by worker and innermost lock (a full lane is {100 * highest:.0f}% of all blocks):",
-                  self.items(zip(names, colours)))
-        for worker, row in enumerate(rows):
-            self.lane(f"worker {worker}", row, colours, names, highest)
-        self.stamps()
+        self.lanes(f"Blocks by worker and innermost lock (a full lane is {100 * highest:.0f}% of all blocks):",
+                   self.items(zip(names, colours)), workers, rows, colours, names, highest)
 
     def draw_threads(self) -> None:
         names, colours = zip(*STATES)
-        self.head("What each thread does:", self.items(STATES))
-        for thread in range(self.text.threads):
-            self.lane(self.names.thread(thread), [[does[thread, state] for state in range(len(STATES))]
-                                                  for does in self.columns.threads], colours, names)
-        self.stamps()
+        self.lanes("What each thread does:", self.items(STATES), self.names.lanes()[0],
+                   [[[does[thread, state] for state in range(len(STATES))] for does in self.columns.threads]
+                    for thread in range(self.text.threads)], colours, names)

@@ -1,6 +1,5 @@
-"""A page of HTML that steps through a run. page.html is the page; this puts the run's data into it:
-the blocks, and, where the guest's file is given, what each block changes of registers and of guarded
-words, by model.py."""
+"""A page of HTML that steps through a run. page.html is the page; this puts the run's data into it: the blocks, and,
+where the guest's file is given, what each block changes of registers and of guarded words, by model.py."""
 from __future__ import annotations
 
 import json
@@ -115,14 +114,13 @@ def data(line: timeline.Timeline, names: names.Names, first: int, last: int, tit
     broken = {lock: mark.block.stamp for mark in line.marks[::-1] if mark.block.ends_thread for lock in mark.block.held}
     for mark in line.marks[first:last + 1]:
         block = mark.block
-        start = player.starts[block.stamp] if player else f"pc {block.pc:08x}" if block.pc is not None else ""
+        start = player.starts[block.stamp] if player else f"pc {block.pc:08x}"
         rows.append(row(mark, texts.setdefault(start, len(texts)), player.notes.get(block.stamp, "") if player else ""))
     return {"title": title, "what": line.text.title(), "first": first, "workers": line.text.workers,
             "threads": names.threads, "locks": [{"name": name} for name in names.locks],
             "lockColours": [textlanes.by_lock(lock) for lock in range(line.text.guards)],
-            "workerColours": [textlanes.by_worker(worker) for worker in range(len(svg.WORKERS))],
-            "blocks": rows, "before": nearest(line.marks[:first][::-1], threads),
-            "behind": nearest(line.marks[last + 1:], threads),
+            "workerColours": [textlanes.by_worker(worker) for worker in range(len(svg.WORKERS))], "blocks": rows,
+            "before": nearest(line.marks[:first][::-1], threads), "behind": nearest(line.marks[last + 1:], threads),
             "broken": [broken.get(lock, -1) for lock in range(line.text.guards)], "starts": list(texts),
             **(player.data() if player else {"registers": None, "words": None, "changes": []})}
 

@@ -3,6 +3,7 @@ lock. Workers and kinds are told apart by shape as well as by colour."""
 from __future__ import annotations
 
 import itertools
+import pathlib
 from typing import Any, Callable, Iterator
 
 from ..reports.report import several
@@ -12,9 +13,7 @@ from .svg import COLOURS, box, document, label, titled
 WIDE, HIGH, GAP, LEFT, TOP = 360, 170, 50, 56, 84  # of a panel, and the margins
 CONTEXTS = "contexts to another node"  # of runs with nodes alone
 KINDS = {"taken": "#CFCFCF", "adopted": "#0072B2", "granted": "#E69F00"}
-STYLE = """text{font:11px 'DejaVu Sans',Verdana,sans-serif;fill:#222}.h{font-size:14px;font-weight:bold}
-.t{font-weight:bold}.axis{fill:#555;font-size:9px}.end{text-anchor:end}.mid{text-anchor:middle}
-path{fill:none}.g{stroke:#ddd}.w{stroke-width:1.8}.thin{stroke-width:1;stroke-dasharray:4 3}"""
+STYLE = (pathlib.Path(__file__).parent / "plots.css").read_text().rstrip()
 MARKS = ("M-3-3h6v6h-6z", "M0-4l4 7h-8z", "M0-4l4 4-4 4-4-4z", "M-4 0a4 4 0 1 0 8 0a4 4 0 1 0-8 0z")
 
 

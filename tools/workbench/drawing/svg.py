@@ -5,6 +5,7 @@ by letters and outlines too, locks and workers by numbers, and the boxes of work
 from __future__ import annotations
 
 import html
+import pathlib
 import textwrap
 from collections import Counter
 from typing import Any, Iterator
@@ -25,16 +26,7 @@ LETTERS = {"start": "s", "on": "", "taken": "T", "adopted": "A", "granted": "G"}
 AWAY, MOVED = "l-5 -6h10z", "v-4h8v-2l5 4l-5 4v-2z"  # the shapes of marks
 UNIT, HEIGHT, LANE, STRIP, NARROWEST = 14, 18, 26, 80, 860
 
-STYLE = """text{font:11px 'DejaVu Sans',Verdana,sans-serif}
-.l{font-size:10px;text-anchor:middle;font-weight:bold}.n{font-size:8px}
-.d{paint-order:stroke;stroke:#fff;stroke-width:2}
-.k{stroke:#fff;stroke-width:.5}.o{fill:none}
-.adopted{stroke:#000;stroke-width:2.2}.granted{stroke:#000;stroke-width:1.5;stroke-dasharray:3 2}
-.taken,.on,.start,.w{stroke:#777;stroke-width:.6}
-.asleep{stroke-width:4;stroke-dasharray:2 3}.shipped{stroke-width:4;stroke-dasharray:9 3}
-.waiting{stroke-width:1.6}.wants{stroke-width:1.2;stroke-dasharray:1 3}.holds{stroke-width:1.6}
-.has{stroke-width:6}.nobody{stroke-width:2;stroke-dasharray:4 3}.c{stroke:#555;stroke-width:.6}.e{stroke-width:3}
-.axis{fill:#555;font-size:9px}.h{font-size:14px;font-weight:bold}.g{font-weight:bold}"""
+STYLE = (pathlib.Path(__file__).parent / "svg.css").read_text().rstrip()
 
 PATTERNS = {1: '<path d="M0 6L6 0" stroke="#fff" stroke-width="1.6"/>',
             2: '<circle cx="3" cy="3" r="1.5" fill="#fff"/>',
@@ -158,8 +150,7 @@ def items(names: names.Names, workers: int) -> Iterator[tuple[str, str]]:
     yield box(0, 0, UNIT, HEIGHT, PLAIN, "on"), "no lock held (s: the thread's start)"
     for lock in range(len(names.locks)):
         yield box(0, 0, UNIT, HEIGHT, fill(lock)), names.lock(lock)
-    for kind, text in (("taken", "taken: the lock was free"),
-                       ("adopted", "adopted: run by the worker that released"),
+    for kind, text in (("taken", "taken: the lock was free"), ("adopted", "adopted: run by the worker that released"),
                        ("granted", "granted: handed on, for any worker")):
         yield (f'<rect class="{kind}" x="1" y="1" width="{UNIT - 2}" height="{HEIGHT - 2}" fill="#fff"/>'
                + label(UNIT / 2, 13, LETTERS[kind], "l"), text)

@@ -3,6 +3,7 @@ from __future__ import annotations
 
 from argparse import Namespace
 import os
+import pathlib
 import shutil
 import sys
 from typing import Any, Iterator
@@ -14,12 +15,7 @@ from . import svg
 LETTERS = {"start": "s", "on": ".", "taken": "t", "adopted": "a", "granted": "g"}
 STATES = {timeline.ASLEEP: "z", timeline.SHIPPED: "n", timeline.WAITING: "-", timeline.WANTS: "~", timeline.HOLDS: "="}
 DIGITS = "0123456789ABCDEFGHIJKLMNOPQRSTUV"  # of threads, workers and locks
-LEGEND = """s start  . without a lock  t taken  a adopted  g granted  o on with a lock held
-a capital letter: away from the thread's own worker
-z asleep with locks held  n shipped with locks held (nested)  = holds locks
-- waits for a lock  ~ wants a lock and finds it free; the lock's number stands first
-x behind a thread's last block; a worker's lane has the number of the thread (above 9: A, B ..)
-a lock's lane has the number of the worker that has it; - is a package that no worker has"""
+LEGEND = pathlib.Path(__file__).with_suffix(".txt").read_text().rstrip()
 
 
 class Canvas:
@@ -106,10 +102,8 @@ def show(line: timeline.Timeline, called: names.Names, first: int, last: int, as
         stop = min(start + room - 1, shown)
         print(f"\nblocks {start} to {stop}")
         canvas = Canvas(line, lanes, wide, start, stop)
-        for row in (canvas.ruler(), *canvas.rows(colours)):
-            print(row)
+        print(canvas.ruler(), *canvas.rows(colours), sep="\n")
     print()
     if shown < last:
         print(f"Blocks {shown + 1} to {last} are not drawn; --from {shown + 1} --to {last} draws them.")
-    for sentence in svg.sentences(line, first, last):
-        print(sentence)
+    print(*svg.sentences(line, first, last), sep="\n")

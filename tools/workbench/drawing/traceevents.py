@@ -57,15 +57,10 @@ def block_events(mark: timeline.Mark) -> Iterator[dict[str, Any]]:
     yield {**common, "name": kind + (" AWAY" if mark.away else ""), **lane(THREADS, block.thread)}
     yield {**common, "name": f"thread {block.thread} {kind}", **lane(WORKERS, block.worker)}
     for lock in block.held:
-        yield {**common, "name": f"worker {block.worker}" + " MOVED" * (lock in mark.moved),
-               **lane(LOCKS, lock)}
+        yield {**common, "name": f"worker {block.worker}" + " MOVED" * (lock in mark.moved), **lane(LOCKS, lock)}
 
 
 def show(line: timeline.Timeline, called: names.Names, first: int, last: int, asked: Namespace) -> None:
     """Prints the trace, one event a line."""
     print('{"displayTimeUnit": "ns", "otherData": ' + json.dumps({"title": asked.title}) + ', "traceEvents": [')
-    before = ""
-    for event in events(line, called, first, last):
-        print(before + json.dumps(event), end="")
-        before = ",\n"
-    print("\n]}")
+    print(",\n".join(map(json.dumps, events(line, called, first, last))) + "\n]}")

@@ -1,6 +1,5 @@
-"""A thread that runs whole blocks, from a state that is a value: what its blocks come to depends on its
-own state and on the words of locks that it reads, and on nothing else. Which words these are is kept.
-"""
+"""A thread that runs whole blocks, from a state that is a value: what its blocks come to depends on its own state and
+on the words of locks that it reads, and on nothing else. Which words these are is kept."""
 from __future__ import annotations
 
 from functools import partial
@@ -56,10 +55,9 @@ class Guest:
 
 
 class Held:
-    """A lock that a running thread has or had: whether it has it, whether it was broken, its bytes, and
-    what happened since: whether the thread took it, whether its end broke it, which of the words that it
-    found were looked at, in this order, which words were written, and which of these are sums of a word
-    that it found and a number."""
+    """A lock that a running thread has or had: whether it has it, whether it was broken, its bytes, and what happened
+    since: whether the thread took it, whether its end broke it, which of the words that it found were looked at, in
+    this order, which words were written, and which of these are sums of a word that it found and a number."""
 
     def __init__(self, broken: int, content: bytes, took: int) -> None:
         self.held, self.broken, self.bytes = 1, broken, bytearray(content)
@@ -100,9 +98,8 @@ class Away(Exception):
 
 
 class Running:
-    """A thread with what it changes: registers, program counter, fuel, the pages of its memory that
-    were written, and the locks that it has or had. `look` answers of a lock whether it is held, whether
-    it is broken, and its bytes."""
+    """A thread with what it changes: registers, program counter, fuel, the pages of its memory that were written, and
+    the locks that it has or had. `look` answers of a lock whether it is held, whether it is broken, and its bytes."""
 
     def __init__(self, guest: Guest, x: Sequence[int], pc: int, fuel: int, pages: dict[int, bytes],
                  held: Iterable[int], look: Callable[[int], tuple[int, int, bytes]]) -> None:

@@ -1,13 +1,4 @@
-"""Shows how a guest can end: how the threads end, their x10, the locks' sections, broken flags and
-guarded words. Faults come first.
-
-With --all it searches every interleaving, and prints each outcome with how many blocks a shortest
-history of it has. --reach RULE searches for a history whose end satisfies a rule, and --never RULE checks
-that there is none. docs/COURSE.md explains rules, and why nothing is missed.
-
-Otherwise it takes samples: N runs by the program, if it is built, with several numbers of workers and batch
-limits, and N by model.py, in interleavings that are drawn from seeds.
-"""
+"""How a guest can end: by samples, or by a search of every interleaving."""
 from __future__ import annotations
 
 from argparse import Namespace
@@ -247,8 +238,7 @@ def compare(guest: model.Guest, found: search.Search, asked: Namespace) -> None:
             raise tool.Trouble(tool.WRONG, f"the search has not the outcome of {outcome.command}")
 
 
-def sampled(guest: model.Guest, asked: Namespace, before: str,
-            behind: str) -> list[tuple[rules.End, Outcome]]:
+def sampled(guest: model.Guest, asked: Namespace, before: str, behind: str) -> list[tuple[rules.End, Outcome]]:
     """Looks at some runs, and says in a line how many of whom. Answers their outcomes, by how they end: those
     with faults first, then those seen most often."""
     why = None if asked.model else program.missing()
@@ -274,7 +264,7 @@ def samples(guest: model.Guest, asked: Namespace) -> None:
 
 
 def parsed(words: list[str]) -> tuple[Namespace, Any]:
-    parser = tool.words("explore", __doc__, "guest")
+    parser = tool.words("explore", "guest", more="rules")
     parser.add_argument("--all", action="store_true", help="every interleaving, and each outcome")
     parser.add_argument("--reach", metavar="RULE", action="append", default=[],
                         help="a history whose end satisfies RULE, as 'lock 0 word 2 == 1'")

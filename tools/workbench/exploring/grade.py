@@ -1,15 +1,4 @@
-"""Grades a folder of guests by rules on how they end in every interleaving, and prints a table.
-
-The guests are the .elf files of the folder and of those in it, and the .c and .S files, which are built with
-the kit in a folder of their own; an .elf file beside its source is ignored. --never RULE succeeds if no
-end of an interleaving satisfies RULE, --reach RULE if one does. ./workbench explore searches, and docs/COURSE.md
-explains rules. With --keep FOLDER a history is written of each end that was found.
-
-  holds         no interleaving breaks the rule    broken      one does
-  reachable     one ends so                        never       none does
-  not known     the search stopped before; --states allows it more
-  no rule       the guest lacks what the rule mentions
-"""
+"""A folder of guests, built where they are sources, and graded by rules."""
 from __future__ import annotations
 
 from argparse import Namespace
@@ -120,7 +109,7 @@ def print_csv(rules: list[Rule], results: list[Graded]) -> None:
 
 
 def asked_of(words: list[str]) -> Namespace:
-    parser = tool.words("grade", __doc__)
+    parser = tool.words("grade", more="rules")
     parser.add_argument("folder", metavar="FOLDER", help="of guests")
     for kind in ("never", "reach"):
         parser.add_argument(f"--{kind}", metavar="RULE", action="append", default=[])

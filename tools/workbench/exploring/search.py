@@ -1,9 +1,8 @@
 """Searches every interleaving of a guest, by the steps of sections.py, with each state kept once.
 
-States are taken in the order of how many blocks lead to them, so a state is met first on a shortest
-way. With several processes each keeps the states that fall to it by a checksum, and all take the states
-with the same number of blocks at one time.
-"""
+States are taken in the order of how many blocks lead to them, so a state is met first on a shortest way. With several
+processes each keeps the states that fall to it by a checksum, and all take the states with the same number of blocks at
+one time."""
 from __future__ import annotations
 
 import functools
@@ -257,9 +256,8 @@ class Search:
     While it goes on `tell` is called with the number of states so far, and where that answers True it stops. `before`
     is what a search kept that stopped: this one goes on there, with at most so many states more.
 
-    `whole` tells whether every interleaving was seen, and `states` how many states were. Where not all
-    was, `walks` has some ways to the end, by chance, from where the search stopped.
-    """
+    `whole` tells whether every interleaving was seen, and `states` how many states were. Where not all was, `walks` has
+    some ways to the end, by chance, from where the search stopped."""
 
     def __init__(self, guest: model.Guest, fuel: int, asked: Iterable[str] = (), most: int = 10**6, processes: int = 1,
                  until_answered: bool = False, walks: int = WALKS, tell: Callable[[int], bool] = lambda states: False,
@@ -294,7 +292,7 @@ class Search:
 
     def is_answered(self) -> bool:
         """Whether nothing more is to be searched."""
-        return self.whole or self.is_stopped or self.done()
+        return self.whole or self.is_stopped or (self.until_answered and len(self.answers) == len(self.asked))
 
     def finish(self) -> None:
         """Walks to the end from where the search stopped."""
@@ -322,9 +320,6 @@ class Search:
         """What a later search goes on from."""
         content = marshal.dumps((self.mark, self.all_kept, self.states, self.answers, self.shares.all("kept")))
         return hashlib.blake2b(content).digest() + content
-
-    def done(self) -> bool:
-        return self.until_answered and len(self.answers) == len(self.asked)
 
     def run(self, most: int) -> None:
         """Takes level after level, up to so many states, a large level in parts."""

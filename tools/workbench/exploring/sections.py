@@ -1,10 +1,9 @@
 """States of a guest as bytes, and what follows on them by whole sections.
 
-A state is the names of its parts, one for each thread and one for each lock; a part's name is a digest
-of its content. So equal parts have one name, a step copies names alone, and what a section comes to is
-computed once for all states in which its thread's part and the words of locks that it reads are the
-same. docs/COURSE.md says which interleavings these steps stand for, and why that is all of them.
-"""
+A state is the names of its parts, one for each thread and one for each lock; a part's name is a digest of its content.
+So equal parts have one name, a step copies names alone, and what a section comes to is computed once for all states in
+which its thread's part and the words of locks that it reads are the same. docs/COURSE.md says which interleavings these
+steps stand for, and why that is all of them."""
 from __future__ import annotations
 
 import hashlib
@@ -74,9 +73,8 @@ class Result(NamedTuple):
 
 
 class Node:
-    """What of the locks a section depends on, behind what the nodes above it look at, and what follows:
-    by the bytes there a result, another node where it depends on more, or () where a lock is held that
-    it takes."""
+    """What of the locks a section depends on, behind what the nodes above it look at, and what follows: by the bytes
+    there a result, another node where it depends on more, or () where a lock is held that it takes."""
 
     __slots__ = ("known", "places", "after")
 
@@ -173,8 +171,7 @@ class Sections:
             run = blocks.Running(self.guest, thread.x, thread.pc, thread.fuel, {}, (), lambda lock: (0, 0, b""))
             count += run.go_on()
             names.append(self.thread(run, 0))
-        for lock in self.machine.locks:
-            names.append(self.part(LOCK.pack(0, 0, 0) + bytes(lock.bytes)))
+        names += [self.part(LOCK.pack(0, 0, 0) + bytes(lock.bytes)) for lock in self.machine.locks]
         return b"".join(names), count
 
     def follow(self, name: bytes, state: bytes, node: Node | None) -> Any:
@@ -256,6 +253,5 @@ class Sections:
         threads, locks = ([self.contents[name] for name in names] for names in self.names(state))
         hows = [THREAD.unpack_from(content) for content in threads]
         flags = [(*LOCK.unpack_from(content), content[LOCK.size:]) for content in locks]
-        return rules.End(
-            tuple((blocks.ENDS.get(how) or f"fault {how - blocks.FAULT}", x10) for how, _, x10 in hows),
-            tuple((broken, count, content) for count, _, broken, content in flags))
+        return rules.End(tuple((blocks.ENDS.get(how) or f"fault {how - blocks.FAULT}", x10) for how, _, x10 in hows),
+                         tuple((broken, count, content) for count, _, broken, content in flags))

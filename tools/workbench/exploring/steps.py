@@ -1,8 +1,7 @@
-"""A guest's instructions, decoded once: functions whose operands are bound, of the registers and the running
-thread, that answer the next program counter, or raise Fault and change nothing.
+"""A guest's instructions, decoded once: functions whose operands are bound, of the registers and the running thread,
+that answer the next program counter, or raise Fault and change nothing.
 
-They do what model.py does, only faster; tools/tests compares the two block by block.
-"""
+They do what model.py does, only faster; tools/tests compares the two block by block."""
 from __future__ import annotations
 
 import operator
@@ -77,14 +76,13 @@ def is_return(what: rv32im.Instruction) -> bool:
 
 
 class Live:
-    """Which registers a guest's code can still read, by its addresses, as bits: a register that is written
-    before it is read again, on every way on, has a value that nothing depends on.
+    """Which registers a guest's code can still read, by its addresses, as bits: a register that is written before it is
+    read again, on every way on, has a value that nothing depends on.
 
-    Every branch is taken to go both ways, and a return (jalr x0,0(x1), or x5, which functions that a compiler
-    calls for a division return by) to every place behind a call; where a return goes elsewhere, `expect` says
-    so, and nothing of this may be used. At other indirect jumps all registers count as read. x10 always does,
-    since it is told of an ended thread, and it can end anywhere.
-    """
+    Every branch is taken to go both ways, and a return (jalr x0,0(x1), or x5, which functions that a compiler calls for
+    a division return by) to every place behind a call; where a return goes elsewhere, `expect` says so, and nothing of
+    this may be used. At other indirect jumps all registers count as read. x10 always does, since it is told of an ended
+    thread, and it can end anywhere."""
 
     def __init__(self, guest: model.Guest) -> None:
         self.guest = guest
@@ -231,8 +229,7 @@ def sum_of(to: int, a: int, b: int, sign: int, after: int, x: Registers, run: Ru
     return after
 
 
-def operated(of: Operation, to: int, a: int, b: int | None, value: int, after: int, x: Registers,
-             _: Running) -> int:
+def operated(of: Operation, to: int, a: int, b: int | None, value: int, after: int, x: Registers, _: Running) -> int:
     """x[to] = of(x[a], x[b]), or of a value in the place of x[b]."""
     x[to] = of(number(x, a), value if b is None else number(x, b)) & MASK
     return after

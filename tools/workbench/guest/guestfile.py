@@ -1,8 +1,7 @@
 """A guest's file as a whole: why the program refuses it, its symbols, what an address is.
 
-The refusals are those of docs/GUIDE.md, in their order; each is told with the numbers that
-disagree. What an accepted file means is model.Guest.
-"""
+The refusals are those of docs/GUIDE.md, in their order; each is told with the numbers that disagree. What an accepted
+file means is model.Guest."""
 from __future__ import annotations
 
 from pathlib import Path
@@ -29,13 +28,6 @@ class Refused(Exception):
 def refusal(file: bytes) -> Refused | None:
     """Why the program refuses a file, or None."""
     return next((Refused(number, why) for is_wrong, number, why in of_file(file) if is_wrong), None)
-
-
-def check(file: bytes) -> None:
-    """Refused where the program refuses the file."""
-    refused = refusal(file)
-    if refused:
-        raise refused
 
 
 def of_file(file: bytes) -> Iterator[Finding]:
@@ -181,10 +173,12 @@ def ranges_text(ranges: list[elf32.Header], flag: int) -> str:
 
 
 class GuestFile:
-    """An accepted file: what it means, and its symbols by address, where it has some."""
+    """An accepted file: what it means, and its symbols by address, where it has some; Refused where it is refused."""
 
     def __init__(self, file: bytes) -> None:
-        check(file)
+        refused = refusal(file)
+        if refused:
+            raise refused
         self.guest, self.symbols = model.Guest(file), {}  # type: model.Guest, dict[int, str]
         for address, name, info in sorted(elf32.symbols(file), key=lambda symbol: symbol[2] < 16):
             if info & 15 in (0, 1, 2) and name and not name.startswith((".", "$")):

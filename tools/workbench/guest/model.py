@@ -1,9 +1,7 @@
 """A guest's threads under ordinary mutexes, in plain Python, written from docs/GUIDE.md.
 
-./workbench check compares what the program ./tclocks prints with this model, and ./workbench facts
-counts turns by it. It shares no code with the program. It takes files that the program
-accepts; it refuses none itself.
-"""
+./workbench check compares what the program ./tclocks prints with this model, and ./workbench facts counts turns by it.
+It shares no code with the program. It takes files that the program accepts; it refuses none itself."""
 from __future__ import annotations
 
 import operator
@@ -90,8 +88,7 @@ class Thread:
         self.held: set[int] = set()
         self.end: str | None = None
         self.slept = 0
-        self.own = {i: bytearray(content) for i, (_, flags, content) in enumerate(guest.ranges)
-                    if flags & 2}
+        self.own = {i: bytearray(content) for i, (_, flags, content) in enumerate(guest.ranges) if flags & 2}
         self.stack = bytearray(len(STACK))
 
 
@@ -274,15 +271,9 @@ def target(address: int) -> int:
 def differences(facts: dict[str, Any], machine: Any) -> Iterator[str]:
     """Says where a machine at its end is not as the facts of its guest say. '.' in a guard's
     digits and null elsewhere stand for anything."""
-    shown: dict[str, list[Any]] = {
-        "ends": [thread.end for thread in machine.threads],
-        "x10": [thread.x[10] for thread in machine.threads],
-        "pc": [thread.pc for thread in machine.threads],
-        "guards": [lock.bytes.hex() for lock in machine.locks],
-        "sections": [lock.sections for lock in machine.locks],
-        "broken": [lock.broken for lock in machine.locks],
-    }
-    for name, seen in shown.items():
+    threads = zip(*((thread.end, thread.x[10], thread.pc) for thread in machine.threads))
+    locks = [*zip(*((lock.bytes.hex(), lock.sections, lock.broken) for lock in machine.locks))] or [()] * 3
+    for name, seen in zip(("ends", "x10", "pc", "guards", "sections", "broken"), (*threads, *locks)):
         if len(seen) != len(facts[name]):
             yield f"{len(seen)} values of {name}, not {len(facts[name])}"
         for i, (value, fact) in enumerate(zip(seen, facts[name])):

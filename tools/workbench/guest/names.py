@@ -1,8 +1,7 @@
 """What threads and locks are called: by the guest's symbols where its file is given, else by number.
 
-A thread has the name of its entry's symbol, without the `_entry` of the kit, and its argument. A
-lock has the name of its guard's symbol; guards that lie side by side in one symbol are its elements.
-"""
+A thread has the name of its entry's symbol, without the `_entry` of the kit, and its argument. A lock has the name of
+its guard's symbol; guards that lie side by side in one symbol are its elements."""
 from __future__ import annotations
 
 

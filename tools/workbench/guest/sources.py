@@ -6,7 +6,6 @@ import os
 import pathlib
 import re
 import shutil
-import stat
 import subprocess
 from typing import Dict, List, NamedTuple, Optional
 
@@ -15,7 +14,6 @@ from . import elf32, guestfile
 
 # The first that is on the PATH: that of the kit's compiler, and those that read files of any machine's.
 READERS = ("riscv64-unknown-elf-addr2line", "riscv64-linux-gnu-addr2line", "llvm-addr2line")
-MOST_SOURCE = 1048576  # bytes of a source that are read
 SECONDS = 60  # that a reader may take
 ANSWER = re.compile(r"^0x([0-9a-f]+)\n((?:(?!0x).*\n)*)", re.M)
 FRAME = re.compile(r"^(.*):(\d+)(?: \(discriminator \d+\))?$", re.M)
@@ -37,7 +35,6 @@ class Sources:
         """Of a file at a path with its bytes; addresses are those of the code."""
         self.path, self.code, self.trouble = path, code, ""
         self.folders = [pathlib.Path(os.path.dirname(path) or "."), places.KIT]
-        self.texts: Dict[str, List[str]] = {}
         self.is_there = any(section.name == ".debug_line" for section in elf32.sections(content))
         self.reader: Optional[str] = next(filter(None, map(shutil.which, READERS)), None)
         if self.is_there and self.reader is None:
@@ -71,10 +68,7 @@ class Sources:
 
     def source(self, place: Place) -> str:
         """The text of a line, from a source of that name in the guest's folder or the kit."""
-        if place.file not in self.texts:
-            read = (lines_of(folder / place.file) for folder in self.folders)
-            self.texts[place.file] = next(filter(None, read), [])
-        text = self.texts[place.file]
+        text: List[str] = next(filter(None, (lines_of(folder / place.file) for folder in self.folders)), [])
         return text[place.line - 1].strip() if 0 < place.line <= len(text) else ""
 
 
@@ -83,12 +77,11 @@ def printable(text: str) -> str:
     return "".join(one if one.isprintable() else "?" for one in text)
 
 
+@functools.lru_cache()
 def lines_of(path: pathlib.Path) -> List[str]:
-    """The lines of a source, or none where it isn't a file of its size."""
+    """The lines of a source, or none where it is no file that can be read."""
     with contextlib.suppress(OSError, ValueError):
-        with open(os.open(path, os.O_RDONLY | os.O_NONBLOCK), "rb") as file:
-            if stat.S_ISREG(os.fstat(file.fileno()).st_mode):
-                return file.read(MOST_SOURCE).decode("utf-8", "replace").splitlines()
+        return path.read_text("utf-8", "replace").splitlines() if path.is_file() else []
     return []
 
 

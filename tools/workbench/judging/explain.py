@@ -1,24 +1,19 @@
-"""Explains a guest's file, or the program's answer to it.
-
-Without a report it describes the file, or says why it is refused. With one it says where each
-block began (symbol and instruction, and the line of the source where the guest has debug data), how
-each adopted or granted section came about, and why each thread ended; a refusal is told with the
-numbers that disagree, and the line of a rejected history in a sentence. --thread, --lock and --block choose
-blocks; several of them choose the blocks that meet all. After a usage line, --words says what is wrong with the
-arguments.
-"""
+"""What a guest's file has, and why each block of a report came; one block turn by turn, by a copy of the model; and
+what a thread's context carries when another worker goes on with it, and where the bytes of a lock come from."""
 from __future__ import annotations
 
 from argparse import Namespace
 import argparse
 import copy
+import operator
 import re
+from collections import Counter
 from typing import Any, Iterator
 
-from .. import tool
-from ..guest import guestfile, sources
+from .. import limits, tool
+from ..guest import guestfile, model, rv32im, sources
 from ..reports import counts, report
-from . import legal, reasons, tracing
+from . import legal, reasons
 
 
 def explain_file(path: str) -> None:
@@ -35,8 +30,7 @@ def explain_file(path: str) -> None:
         print(f"thread {number}: argument {argument} ({argument:#x}), begins at {reasons.instruction(file, entry)}")
     for number, guarded in enumerate(guest.spans):
         name = file.name(guarded.start)
-        print(f"lock {number}: guards {len(guarded)} bytes, {guestfile.span(guarded)}"
-              + (f" <{name}>" if name else ""))
+        print(f"lock {number}: guards {len(guarded)} bytes, {guestfile.span(guarded)}" + (f" <{name}>" if name else ""))
 
 
 def check_number(name: str, number: int | None, count: int) -> None:
@@ -45,13 +39,120 @@ def check_number(name: str, number: int | None, count: int) -> None:
         raise tool.Trouble(tool.WRONG, f"the report has {report.several(count, name)}, and no {name} {number}")
 
 
+def values(numbers: Any, x: list[int]) -> str:
+    return " ".join(f"{rv32im.REGISTERS[number]}={x[number]:08x}" for number in numbers)
+
+
+def memory_place(file: guestfile.GuestFile, address: int) -> str:
+    """What an address of memory is, in few words."""
+    guard = file.guard_at(address)
+    inside = f" of lock {guard}" if guard is not None else " of the stack" if address in limits.STACK else ""
+    return reasons.place(file, address) + inside
+
+
+def memory(file: guestfile.GuestFile, word: int, x: list[int]) -> str:
+    """What a word loads or stores with these registers, or ''."""
+    access = rv32im.access(word, x)
+    if access is None:
+        return ""
+    kind, address, width = access
+    if kind == "load":
+        return f"loads {report.several(width, 'byte')} at {memory_place(file, address)}"
+    what = rv32im.decode(word)
+    assert what
+    value = x[what.b] & ((1 << 8 * width) - 1)
+    return f"stores {value:0{2 * width}x} at {memory_place(file, address)}"
+
+
+def turn_text(file: guestfile.GuestFile, word: int, pc: int, before: list[int], thread: model.Thread) -> str:
+    """What one turn did: the registers read, what was loaded or stored, and the register set."""
+    what = rv32im.decode(word)
+    read, written = rv32im.registers(what) if what else ((), 0)
+    parts = [values(dict.fromkeys(filter(None, read)), before), memory(file, word, before)]
+    if thread.end is None or thread.end == "exit":
+        if written:
+            parts.append(f"-> {values([written], thread.x)}")
+        if what and what.name in model.COMPARISONS:
+            parts.append("-> goes on behind it" if thread.pc == pc + 4 else "-> branches")
+    return "  ".join(part for part in parts if part)
+
+
+def trace(run: legal.Run, file: guestfile.GuestFile, lines: Any, number: int) -> Iterator[str]:
+    """The lines of a thread's next block; the run stays as it is."""
+    guest = run.machine.guest
+    machine = copy.deepcopy(run.machine, {id(guest): guest})
+    thread, shown, end, turn = machine.threads[number], "", None, 0
+    yield "    registers that aren't 0: " + values([i for i, value in enumerate(thread.x) if value], thread.x)
+    while end is None:
+        pc, word, before = thread.pc, guest.word(thread.pc), list(thread.x)
+        said = lines.text(pc)
+        if said and said != shown:
+            yield f"    {said}"
+        shown = said
+        text = reasons.start_text(file, thread)
+        spent = thread.fuel == 0
+        end, turn = machine.turn(number), turn + 1
+        if spent or word is None:
+            yield f"    {turn:4}  " + ("the thread ends, its fuel is spent" if spent else text)
+        else:
+            yield f"    {turn:4}  {text:<48}  {turn_text(file, word, pc, before, thread)}".rstrip()
+        wanted = None if end else machine.next_lock(thread)
+        if wanted is not None or turn == limits.TURNS:
+            return
+
+
+class Contexts:
+    """Counts what moves of the contexts and the locks of a run, whose blocks so far are counted."""
+
+    def __init__(self, machine: model.Machine, counted: counts.Counts) -> None:
+        self.machine, self.counted = machine, counted
+        self.counts: Counter[str] = Counter()
+
+    def context(self, thread: model.Thread, held: tuple[int, ...]) -> str:
+        """Counts a context between two blocks, and says what it carries."""
+        registers = [rv32im.REGISTERS[number] for number, value in enumerate(thread.x) if value]
+        stack = limits.STACK.stop - thread.x[2] if thread.x[2] in limits.STACK else 0
+        contents = ((own, self.machine.guest.ranges[place][2]) for place, own in thread.own.items())
+        data = sum(sum(map(operator.ne, own, content)) for own, content in contents if own != content)
+        self.counts.update(contexts=1, registers=len(registers), stack=stack, data=data)
+        guarded = sum(len(self.machine.locks[lock].bytes) for lock in held)
+        held_text = f"; in its package {report.locks_text(held)}, {report.several(guarded, 'byte')}"
+        return (f"pc, {report.several(len(registers), 'register')} not 0 ({' '.join(registers)}), "
+                f"{report.several(stack, 'byte')} of stack in use, {report.several(data, 'byte')} of its own "
+                f"data changed{held_text if held else ''}")
+
+    def before(self, block: report.Block) -> Iterator[str]:
+        """What is said of a block that is about to run: of its context and of its lock, where they move
+        or where the lock stays and the context comes to it."""
+        last = self.counted.threads[block.thread].before
+        came = last is not None and last.worker != block.worker
+        if last is not None and came:
+            yield (f"context of thread {block.thread} from worker {last.worker} to worker {block.worker}: "
+                   + self.context(self.machine.threads[block.thread], last.kept))
+        for lock in block.held:
+            worker, size = self.counted.locks[lock].worker, len(self.machine.locks[lock].bytes)
+            if worker is not None and worker != block.worker:
+                self.counts["moves"] += 1
+                self.counts["guarded"] += size
+                yield f"lock {lock}, {report.several(size, 'byte')}, from worker {worker} to worker {block.worker}"
+            elif came and lock == block.begun and worker is not None:
+                yield f"lock {lock}, {report.several(size, 'byte')}, stays with worker {worker}"
+
+    def total(self) -> str:
+        counts = self.counts
+        return (f"{report.several(counts['contexts'], 'context')} moved to another worker, with "
+                f"{report.several(counts['registers'], 'register')} not 0, {report.several(counts['stack'], 'byte')} of "
+                f"stack in use and {report.several(counts['data'], 'byte')} of own data changed; "
+                f"{report.several(counts['moves'], 'move')} of a lock, with {report.several(counts['guarded'], 'byte')}")
+
+
 class Explainer:
     """Follows the blocks by the model, which knows where each begins, and says it of the chosen ones."""
 
     def __init__(self, file: guestfile.GuestFile, text: report.Report, lines: Any, asked: Namespace) -> None:
         self.file, self.text, self.lines, self.asked = file, text, lines, asked
         self.run, self.counts = legal.begin(file.guest, text), counts.Counts(text)
-        self.contexts = tracing.Contexts(self.run.machine, self.counts) if asked.contexts else None
+        self.contexts = Contexts(self.run.machine, self.counts) if asked.contexts else None
 
     def is_chosen(self, block: report.Block) -> bool:
         thread, lock, (first, last) = self.asked.thread, self.asked.lock, self.asked.block or (0, block.stamp)
@@ -75,12 +176,12 @@ class Explainer:
         thread, came = self.run.machine.threads[block.thread], self.counts.threads[block.thread].before
         start, traced = reasons.start_text(self.file, thread, self.lines), []
         if block.stamp == self.asked.trace and thread.end is None:
-            traced = list(tracing.trace(self.run, self.file, self.lines, block.thread))
+            traced = list(trace(self.run, self.file, self.lines, block.thread))
         moved = list(self.contexts.before(block)) if self.contexts else []
         batch = copy.copy(self.run.batches[block.begun]) if block.begun is not None and block.passed_on else None
         self.run.follow(block, f", line {self.text.number}")
         is_away = self.counts.add(block)
-        yield f"{block.line(self.text.version)}  # {start}"
+        yield f"{block.line()}  # {start}"
         if batch and came:
             yield f"  {reasons.delegation(block, batch, came, is_away)}"
         yield from (f"  {line}" for line in moved)
@@ -141,7 +242,7 @@ def words_of(parser: tool.Words) -> tool.Words:
 
 
 def main(words: list[str]) -> None:
-    asked = words_of(tool.words("explain", __doc__, "guest")).parse_args(words)
+    asked = words_of(tool.words("explain", "guest")).parse_args(words)
     if asked.report is None:
         of_report = ["contexts"] * asked.contexts + [name for name in ("thread", "lock", "block", "trace")
                                                      if getattr(asked, name) is not None]

@@ -1,9 +1,4 @@
-"""Finishes a history that was written by hand: judges it block by block, fills in what its lines
-leave out, and prints the whole report.
-
-A line needs no more than its thread, as in 'thread 1' or 'thread 1 kind adopted worker 0'; what
-follows # is ignored. Where a block is impossible, it prints what would have been legal.
-"""
+"""Histories that were written by hand: their lines, and the whole report."""
 from __future__ import annotations
 
 import re
@@ -17,8 +12,8 @@ from . import legal
 
 PARTS = re.compile("|".join((
     r"(?P<name>thread|turns|worker) (?P<number>\d{1,9})\b", r"held (?P<held>-|[\d,]+)", r"kind (?P<kind>\w+)",
-    r"pc (?P<pc>[0-9a-f]{8})\b", r"end (?P<end>wants \d+|unlocked \d+|slept|cut|exit|fault \d+|spent)")))
-REST = re.compile(r"(thread \d+ (exit|fault|spent)|x\d+ |lock |data |end$)")
+    r"pc (?P<pc>[0-9a-f]{8})\b", rf"end (?P<end>{report.END})(?![^ ])")))
+REST = r"thread \d+ (?:exit|fault|spent)|x\d+ |lock |data |end$"
 
 
 class Line:
@@ -57,32 +52,22 @@ class Line:
             raise report.Wrong(f"{where}: there is no kind {parts['kind']!r}")
 
 
-class History:
-    """A history that was written by hand: a header, where there is one, whose lines may be missing, and the
-    lines of blocks. What stands behind the blocks is not read."""
-
-    def __init__(self, lines: Iterable[str]) -> None:
-        self.header: dict[str, int] = {}
-        self.blocks: list[Line] = []
-        for number, line in enumerate(lines, 1):
-            text = " ".join(line.split("#")[0].split())
-            if REST.match(text):
-                break
-            if text and not self.header_line(number, text):
-                self.blocks.append(Line(number, text))
-
-    def header_line(self, number: int, text: str) -> bool:
-        if self.blocks:
-            return False
-        if text in ("tclocks 1", "tclocks 2"):
-            self.header["version"] = int(text[8:])
-            return True
-        found = report.options_of(text, number)
-        self.header.update(found or {})
-        return bool(found or re.fullmatch(report.GUEST, text))
+def read(lines: Iterable[str]) -> tuple[dict[str, int], list[Line]]:
+    """A history that was written by hand: the numbers of its header, where there is one, whose lines may be missing,
+    and the lines of blocks. What stands behind the blocks is not read."""
+    header, blocks = {}, []  # type: dict[str, int], list[Line]
+    for number, line in enumerate(lines, 1):
+        text = " ".join(line.split("#")[0].split())
+        if re.match(REST, text):
+            break
+        options = None if blocks else report.options_of(text, number)
+        header.update(options or {})
+        if text and not options and (blocks or not re.fullmatch(f"tclocks 2|{report.GUEST}", text)):
+            blocks.append(Line(number, text))
+    return header, blocks
 
 
-DEFAULTS = {"version": 2, "workers": 8, "fuel": 20000, "batch": 8}
+DEFAULTS = {"workers": 8, "fuel": 20000, "batch": 8}
 
 
 def step(run: legal.Run, line: Line) -> report.Block:
@@ -90,9 +75,7 @@ def step(run: legal.Run, line: Line) -> report.Block:
     line.check(run)
     parts = line.parts
     block = run.step(parts["thread"], parts.get("kind"), parts.get("worker", run.worker_for(parts["thread"])))
-    shown = {"turns": block.turns, "held": report.held_text(block.held), "end": block.end}
-    if block.pc is not None:
-        shown["pc"] = f"{block.pc:08x}"
+    shown = {"turns": block.turns, "held": report.held_text(block.held), "pc": f"{block.pc:08x}", "end": block.end}
     for name, value in shown.items():
         if parts.get(name, value) != value:
             raise report.Wrong(f"block {block.stamp}, line {line.number}: {name} is {parts[name]}, and must be {value}")
@@ -102,7 +85,7 @@ def step(run: legal.Run, line: Line) -> report.Block:
 def possible(run: legal.Run) -> Iterator[str]:
     """The lines of what could come next."""
     for block, (_, *others) in run.candidates():
-        yield block.line(run.version) + (f"  # or worker {', '.join(map(str, others))}" if others else "")
+        yield block.line() + (f"  # or worker {', '.join(map(str, others))}" if others else "")
     for number, thread in enumerate(run.machine.threads):
         lock = run.machine.next_lock(thread)
         if lock is not None and run.machine.locks[lock].owner is not None:
@@ -124,7 +107,7 @@ def follow(begin: Callable[..., Any], lines: list[Line]) -> tuple[legal.Run, lis
 
 
 def main(words: list[str]) -> None:
-    parser = tool.words("finish", __doc__, "guest")
+    parser = tool.words("finish", "guest")
     parser.add_argument("history", metavar="HISTORY", nargs="?", default="-",
                         help="the history; standard input if it is left out")
     parser.add_argument("--on", action="store_true", help="go on to the end of every thread, all sections taken")
@@ -132,14 +115,12 @@ def main(words: list[str]) -> None:
         parser.number(f"--{name}", some, f"if the history has no header ({DEFAULTS[name]})")
     asked = parser.parse_intermixed_args(words)
     guest = guestfile.load(asked.guest).guest
-    history = History(tool.read_lines(asked.history))
-    options = {**DEFAULTS, **history.header, **tool.of_run(asked)}
-    numbers = [options[name] for name in (*limits.RUN, "version")]
-    run, blocks = follow(lambda: legal.Run(guest, *numbers), history.blocks)
+    header, lines = read(tool.read_lines(asked.history))
+    options = {**DEFAULTS, **header, **tool.of_run(asked)}
+    run, blocks = follow(lambda: legal.Run(guest, *(options[name] for name in limits.RUN)), lines)
     if asked.on:
         blocks += run.go_on()
     print(*run.lines(blocks), sep="\n")
     if not run.is_over():
         sys.stdout.flush()
-        print(f"# legal so far, {run.count} blocks; what could come next:", *possible(run), sep="\n",
-              file=sys.stderr)
+        print(f"# legal so far, {run.count} blocks; what could come next:", *possible(run), sep="\n", file=sys.stderr)

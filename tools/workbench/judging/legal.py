@@ -17,11 +17,10 @@ BEYOND = " (this the judge asks, and the program's theorem does not say it)"
 class Batch:
     """The batch rule of one lock: of which kinds its next section may be.
 
-    What a history shows of waiting: a thread waited for a release where it is not the one that
-    released, and its last block stands before the next block of the worker that released, since
-    that worker looked for a waiter between its two blocks. An adopted section is that next block.
-    That the thread of a granted section waited so is not in the program's theorem; all else is.
-    """
+    What a history shows of waiting: a thread waited for a release where it is not the one that released, and its last
+    block stands before the next block of the worker that released, since that worker looked for a waiter between its
+    two blocks. An adopted section is that next block. That the thread of a granted section waited so is not in the
+    program's theorem; all else is."""
 
     def __init__(self, limit: int) -> None:
         self.limit, self.adopted = limit, 0
@@ -80,8 +79,8 @@ class Batch:
 class Run:
     """A guest's machine with the batch rule of each lock, and the blocks that were run."""
 
-    def __init__(self, guest: model.Guest, workers: int, fuel: int, limit: int, version: int = 2) -> None:
-        self.workers, self.fuel, self.limit, self.version = workers, fuel, limit, version
+    def __init__(self, guest: model.Guest, workers: int, fuel: int, limit: int) -> None:
+        self.workers, self.fuel, self.limit = workers, fuel, limit
         self.machine = model.Machine(guest, fuel)
         self.threads, self.guards = len(guest.entries), len(guest.guards)
         self.batches = [Batch(limit) for _ in self.machine.locks]
@@ -128,8 +127,7 @@ class Run:
         kind = kind or allowed[0]
         pc = thread.pc
         turns, locks, end = self.machine.run_block(number)
-        block = Block(self.count, number, turns, tuple(sorted(locks)), kind, worker,
-                      pc if self.version == 2 else None, end)
+        block = Block(self.count, number, turns, tuple(sorted(locks)), kind, worker, pc, end)
         self.note(block)
         self.stamps[number] = block.stamp
         self.cut.pop(worker, None)
@@ -186,8 +184,8 @@ class Run:
 
     def lines(self, blocks: list[Block]) -> Iterator[str]:
         """A report of these blocks, to its end where each thread has ended."""
-        yield from report.header_lines(self.version, self.threads, self.guards, self.workers, self.fuel, self.limit)
-        yield from (block.line(self.version) for block in blocks)
+        yield from report.header_lines(self.threads, self.guards, self.workers, self.fuel, self.limit)
+        yield from (block.line() for block in blocks)
         if self.is_over():
             yield from self.ending_lines()
 
@@ -202,7 +200,7 @@ def shown(name: str, block: Block) -> str | int:
 
 def begin(guest: model.Guest, text: report.Report) -> Run:
     """The run that a report's header names, for its guest."""
-    run = Run(guest, text.workers, text.fuel, text.batch, text.version)
+    run = Run(guest, text.workers, text.fuel, text.batch)
     for name in "threads", "guards":
         said, real = getattr(text, name), getattr(run, name)
         if said != real:
@@ -235,23 +233,9 @@ def replay_whole(guest: model.Guest, text: str) -> model.Machine:
     return run.machine
 
 
-JUDGE = """Says whether a report is that of a legal run, or which block or line is not, and why.
-
-A report that stops behind a block line is judged so far. The statuses are those of
-docs/GUIDE.md: 0 where it is legal, 3 where it isn't.
-
-What the program's theorem says of each report that it writes, the judge asks of this one: that the
-history is a run under ordinary mutexes, that sections obey the batch rule and are passed on to other
-threads, that an adopted section is the next block of the worker that released the lock, that a cut
-parts no thread from its worker, and that threads and locks end as printed. One thing it asks beyond
-the theorem: that the thread of a granted section came to its LOCK before the next block of the worker
-that released the lock.
-"""
-
-
 def main(words: list[str]) -> None:
-    parser = tool.words("judge", JUDGE, "guest")
-    parser.report("a report; standard input if it is left out", nargs="?", default="-")
+    parser = tool.words("judge", "guest")
+    parser.report("a report; standard input where it is left out", nargs="?", default="-")
     asked = parser.parse_intermixed_args(words)
     guest = guestfile.load(asked.guest).guest
     try:

@@ -83,8 +83,7 @@ def region(file: guestfile.GuestFile, address: int) -> str:
             return f"it is in the {'writable' if flags & 2 else 'read-only'} range {guestfile.span(where)}"
     below = limits.STACK.start - address
     if 0 < below <= 65536:
-        return (f"it is {below} bytes below the stack, {guestfile.span(limits.STACK)}, as where the stack "
-                "ran out")
+        return (f"it is {below} bytes below the stack, {guestfile.span(limits.STACK)}, as where the stack ran out")
     return "it is in nothing" + (", as of a null pointer" if address < 4096 else "")
 
 
@@ -93,8 +92,7 @@ def fault(number: int, file: guestfile.GuestFile, thread: model.Thread, held: tu
     call, value, locks = thread.x[17], thread.x[10], len(file.guest.guards)
     word = file.guest.word(thread.pc) or 0
     if number == 1:
-        hint = ("the word 0 is none" if word == 0
-                else "its low bits are those of compressed code (C)" if word & 3 != 3
+        hint = ("the word 0 is none" if word == 0 else "its low bits are those of compressed code (C)" if word & 3 != 3
                 else EXTENSIONS.get(word & 0x7F, "no row of RV32IM gives it"))
         return f"the word {word:08x} is no instruction: {hint}"
     if number == 3:

@@ -1,13 +1,12 @@
-"""What the program answers to `replay` and to `profile`, by model.py: a guest's file and a history are
-read as docs/GUIDE.md says, and the history is run again under ordinary mutexes, block by block.
-
-legal.py asks for more than the seven reasons do: that who was adopted or granted a lock can have waited,
-and that a cut parts no thread from its worker.
-"""
+"""What the program answers to `replay` and to `profile`, by model.py, and the tool that asks for it: a guest's file and
+a history are read as docs/GUIDE.md says, and the history is run again under ordinary mutexes, block by block. legal.py
+asks for more than the seven reasons do: that who was adopted or granted a lock can have waited, and that a cut parts no
+thread from its worker."""
 from __future__ import annotations
 
 import itertools
 import re
+import sys
 from random import Random
 from typing import Any, Callable, Iterator, List, Sequence
 
@@ -16,29 +15,20 @@ from ..guest import guestfile, model
 from ..limits import REASONS
 from ..reports import counts, report
 from ..running import program
-from . import legal
+from . import finish, legal, reasons
 
 TEXT, THREAD, OWNER, BLOCK, KIND, WORKER, INCOMPLETE = REASONS
-NUMBER = r"(0|[1-9]\d*)"
-LOCK = r"(?:[12]?\d|3[01])"
-FAULT = r"(?:[1-9]|1[0-2])"
-LINE = re.compile(
-    f"block {NUMBER} thread {NUMBER} turns {NUMBER} held (-|{LOCK}(?:,{LOCK})*) kind ({'|'.join(limits.KINDS)}) "
-    f"worker {NUMBER} pc ([0-9a-f]{{8}}) end ((?:wants|unlocked) {LOCK}|slept|cut|exit|fault {FAULT}|spent)", re.ASCII)
-DIGITS = 10  # no number of a line has more
 Form = Callable[[Random, List[report.Block]], str]  # of spoil.py
 
 
 def block_of(line: str, stamp: int) -> report.Block | None:
     """The block with this stamp that a line is, or None."""
-    found = LINE.fullmatch(line)
-    if not found or max(map(len, found.group(1, 2, 3, 6))) > DIGITS:
+    found = report.BLOCK.fullmatch(line)
+    held = report.held_of(found[4], limits.GUARDS[2]) if found else None
+    if not found or held is None:
         return None
-    read, thread, turns, held, kind, worker, pc, end = found.groups()
-    block = report.Block(int(read), int(thread), int(turns), tuple(map(int, re.findall(r"\d+", held))), kind,
-                         int(worker), int(pc, 16), end)
-    fits = (block.stamp == stamp and max(block.thread, block.worker) < 2**32 and 1 <= block.turns <= limits.TURNS
-            and all(low < high for low, high in zip(block.held, block.held[1:])))
+    block = report.block_of(found, held)
+    fits = block.stamp == stamp and max(block.thread, block.worker) < 2**32 and 1 <= block.turns <= limits.TURNS
     return block if fits else None
 
 
@@ -148,3 +138,47 @@ def give_back(file: bytes, numbers: tuple[int, ...], text: str, draw: Random, fo
     blocks = ask_both(file, numbers, history_of(text), kept).blocks
     for form in forms:
         yield ask_both(file, numbers, form(draw, blocks).encode("ascii"), kept).reason
+
+
+REFUSED = "what was given is refused; ./workbench explain GUEST says why"
+
+
+def given_in(content: bytes) -> tuple[dict[str, int], bytes]:
+    """The numbers of a text's header, where it has one, and the lines of its blocks as bytes."""
+    numbers: dict[str, int] | None = {}
+    if content.startswith(b"tclocks "):
+        lines = content.split(b"\n", 3)
+        numbers = report.options_of(lines[2].decode("ascii", "replace"), 3) if lines[2:] else None
+        if not numbers:
+            raise report.Wrong("the third line must be 'run workers W fuel F batch B'")
+        content = b"".join(lines[3:])
+    return numbers or {}, re.split(f"(?m)^(?={finish.REST})".encode(), content, 1)[0]
+
+
+def main(words: list[str]) -> None:
+    parser = tool.words("replay", "guest")
+    parser.report("a report, or block lines alone; standard input where it is left out", nargs="?", default="-")
+    parser.add_argument("--profile", action="store_const", dest="form", const="profile", default="replay",
+                        help="as ./tclocks profile N W F B")
+    parser.add_argument("--model", action="store_true", help="by the model, where the program is built too")
+    for name, some in limits.RUN.items():
+        parser.number(f"--{name}", some, "in the place of the report's")
+    asked = parser.parse_intermixed_args(words)
+    file = guestfile.read(asked.guest)
+    given, history = given_in(tool.read_bytes(asked.report, limits.HISTORY_BYTES + 1))
+    numbers = {**given, **tool.of_run(asked)}
+    missing = [name for name in limits.RUN if name not in numbers]
+    if missing:
+        parser.error(f"the text has no header, and --{missing[0]} is missing")
+    why, of_run = None if asked.model else program.missing(), tuple(numbers[name] for name in limits.RUN)
+    if asked.model or why:
+        tool.note("replay", "by the model" + (f": {why}" if why else ""))
+        status, text = Given(len(file), of_run, file + history).answer(asked.form)
+    else:
+        tool.note("replay", "by the program")
+        status, text = program.run((asked.form, len(file), *of_run), file + history)
+    sys.stdout.write(text)
+    if status == limits.REJECTED:
+        raise tool.Trouble(status, reasons.rejection(text.strip()))
+    if status:
+        raise tool.Trouble(status, REFUSED if status == tool.WRONG else f"the program ended with status {status}")

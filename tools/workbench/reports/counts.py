@@ -13,28 +13,6 @@ from .. import tool
 from ..limits import SECTIONS
 from . import report
 
-SUMMARY = """Counts what a report says: by lock, by thread and by worker.
-"""
-MEANINGS = """
-  sections   of a lock, and how many of them were taken, adopted, granted
-  rows       of consecutive adopted sections; longest, the greatest number in one (the longest streak)
-  changes    of worker: how many sections, from the second on, have another worker than the lock's block before
-  home       how many sections, from the second on, have another home worker than the section before; the
-             home worker is that of the thread's block before, or the section's own if there is none. So often
-             the worker would have changed, had each section run where its thread came from
-  away       blocks of a section (of a lock: its sections' first blocks) that ran with another worker
-             than the thread's last block without a lock: its context was handed over
-  waiting    how many blocks stand between a thread's LOCK and its section, in sum, and the longest wait
-  fairness   of the waiting for a lock: 1 if each thread waited as long as the others, 1/N if one of
-             N threads waited alone (Jain's index of the threads' mean waits)
-  turns      of a lock: steps (turns) in which it was held
-  moves      of a thread: how many blocks have another worker than its block before
-
-sections, taken, adopted, granted, longest, changes and home of a lock, and blocks, turns and moves of a thread,
-are the numbers that ./tclocks profile prints.
-"""
-
-
 # The names of the numbers that the program prints with `profile`.
 LOCK_PROFILE = "sections", *SECTIONS, "longest", "changes", "home"
 THREAD_PROFILE = "blocks", "turns", "moves"
@@ -214,7 +192,7 @@ def print_csv(counted: Any) -> None:
 
 
 def main(words: list[str]) -> None:
-    parser = tool.words("summary", SUMMARY + MEANINGS)
+    parser = tool.words("summary", more="numbers")
     parser.report()
     forms = parser.add_mutually_exclusive_group()
     forms.add_argument("--json", action="store_const", dest="form", const=print_json)

@@ -1,12 +1,10 @@
-"""The text of a report: its header, its blocks, and how threads and locks end, read and written.
-
-Two forms are read: `tclocks 1`, and `tclocks 2`, in which a block line says the program counter
-at the block's start too. A text that stops early is read as far as it goes.
-"""
+"""The text of a report: its header, its blocks, and how threads and locks end, read and written. A text that stops
+early is read as far as it goes."""
 from __future__ import annotations
 
+import functools
 import re
-from typing import Iterable, Iterator, NamedTuple, Optional, Tuple
+from typing import Iterable, Iterator, NamedTuple, Tuple
 
 from .. import limits, tool
 from ..limits import KINDS, PASSED_ON, SECTIONS
@@ -15,10 +13,11 @@ NUMBER = r"(0|[1-9]\d{0,9})"
 HEX8 = r"([0-9a-f]{8})"
 GUEST = f"guest threads {NUMBER} guards {NUMBER}"
 OPTIONS = re.compile(r"run workers (\S+) fuel (\S+) batch (\S+)")
+ENDED = r"exit|fault (?:[1-9]|1[0-2])|spent"
+END = rf"(?:wants|unlocked) (?:[12]?\d|3[01])|slept|cut|{ENDED}"
 BLOCK = re.compile(f"block {NUMBER} thread {NUMBER} turns {NUMBER} held (-|[0-9,]+) "
-                   f"kind ({'|'.join(KINDS)}) worker {NUMBER}(?: pc {HEX8})? "
-                   r"end (wants \d+|unlocked \d+|slept|cut|exit|fault \d+|spent)")
-THREAD = re.compile(f"thread {NUMBER} (exit|fault \\d+|spent) fuel {NUMBER} pc {HEX8}")
+                   f"kind ({'|'.join(KINDS)}) worker {NUMBER} pc {HEX8} end ({END})")
+THREAD = re.compile(f"thread {NUMBER} ({ENDED}) fuel {NUMBER} pc {HEX8}")
 LOCK = re.compile(f"lock {NUMBER} sections {NUMBER} broken ([01]) bytes {NUMBER}")
 DATA = f"data {HEX8} ((?:[0-9a-f]{{2}})+)"
 ANSWER = re.compile(r"refused \d{1,2} \w+|rejected \d{1,20} \d \w+|usage: .*")
@@ -46,7 +45,7 @@ class Block(NamedTuple):
     held: Tuple[int, ...]
     kind: str
     worker: int
-    pc: Optional[int]
+    pc: int
     end: str
 
     @property
@@ -85,10 +84,9 @@ class Block(NamedTuple):
         """Whether its thread goes on without any lock."""
         return not self.ends_thread and not self.kept
 
-    def line(self, version: int) -> str:
-        pc = f" pc {self.pc:08x}" if version == 2 else ""
-        return (f"block {self.stamp} thread {self.thread} turns {self.turns} held "
-                f"{held_text(self.held)} kind {self.kind} worker {self.worker}{pc} end {self.end}")
+    def line(self) -> str:
+        return (f"block {self.stamp} thread {self.thread} turns {self.turns} held {held_text(self.held)} "
+                f"kind {self.kind} worker {self.worker} pc {self.pc:08x} end {self.end}")
 
 
 class ThreadEnd(NamedTuple):
@@ -107,6 +105,20 @@ class LockEnd(NamedTuple):
 
 def held_text(held: tuple[int, ...]) -> str:
     return ",".join(map(str, held)) or "-"
+
+
+@functools.lru_cache(1 << 12)
+def held_of(text: str, locks: int) -> tuple[int, ...] | None:
+    """The ascending list of locks below a number that a text is, or None."""
+    held = tuple(int(word) for word in text.split(",") if word.isdigit() and len(word) < 3)
+    is_one = held_text(held) == text and all(low < high for low, high in zip(held, (*held[1:], locks)))
+    return held if is_one else None
+
+
+def block_of(found: re.Match[str], held: tuple[int, ...]) -> Block:
+    """The block of a line that matches BLOCK."""
+    stamp, thread, turns, _, kind, worker, pc, end = found.groups()
+    return Block(int(stamp), int(thread), int(turns), held, kind, int(worker), int(pc, 16), end)
 
 
 def several(count: int, what: str, form: str = "") -> str:
@@ -138,9 +150,8 @@ def options_of(line: str, number: int) -> dict[str, int] | None:
     return dict(zip(limits.RUN, map(int, found.groups()))) if found else None
 
 
-def header_lines(version: int, threads: int, guards: int, workers: int, fuel: int, batch: int) -> list[str]:
-    return [f"tclocks {version}", f"guest threads {threads} guards {guards}",
-            f"run workers {workers} fuel {fuel} batch {batch}"]
+def header_lines(threads: int, guards: int, workers: int, fuel: int, batch: int) -> list[str]:
+    return ["tclocks 2", f"guest threads {threads} guards {guards}", f"run workers {workers} fuel {fuel} batch {batch}"]
 
 
 def ending_lines(threads: Iterable[ThreadEnd], locks: Iterable[LockEnd]) -> Iterator[str]:
@@ -164,7 +175,7 @@ class Report:
         self.lines, self.number, self.cut = iter(lines), 0, False
         self.next: str | None = None
         self.take()
-        self.version = self.first_line()
+        self.first_line()
         self.threads, self.guards = self.guest_line()
         options = options_of(self.next or "", self.number)
         if not options:
@@ -175,14 +186,13 @@ class Report:
         self.lock_ends: list[LockEnd] = []
         self.whole = False
 
-    def take(self) -> str:
-        """The line in front, or '' behind the last whole one."""
-        line, self.next = self.next or "", next(self.lines, None)
+    def take(self) -> None:
+        """Goes on to the next line, or to None behind the last whole one."""
+        self.next = next(self.lines, None)
         self.number += 1
         if self.next is not None:
             self.cut = not self.next.endswith("\n")
             self.next = None if self.cut else self.next[:-1]
-        return line
 
     def must(self, what: str) -> Wrong:
         """What is wrong where the next line must be something else."""
@@ -196,7 +206,7 @@ class Report:
             raise self.must(what)
         return found
 
-    def first_line(self) -> int:
+    def first_line(self) -> None:
         line = self.next
         if line is None:
             raise Wrong("this is no report: it is empty, or stops in its first line")
@@ -205,52 +215,43 @@ class Report:
         for form, what in ("demo", "the summary of a demo"), ("profile", "a profile"):
             if line.startswith(f"tclocks {form} "):
                 raise Wrong(f"this is {what} and no report: it has no blocks")
-        if line not in ("tclocks 1", "tclocks 2"):
-            raise self.must("'tclocks 1' or 'tclocks 2'")
-        return int(self.take()[8:])
+        if line != "tclocks 2":
+            raise self.must("'tclocks 2'")
+        self.take()
 
     def guest_line(self) -> tuple[int, int]:
         threads, guards = map(int, self.match(GUEST, "'guest threads N guards M'").groups())
         for name, value, least, most in (("threads", threads, 1, limits.THREADS), ("guards", guards, 0, limits.GUARDS)):
-            if not least <= value <= most[self.version]:
-                raise self.must(f"about {least} to {most[self.version]} {name}")
+            if not least <= value <= most[2]:
+                raise self.must(f"about {least} to {most[2]} {name}")
         self.take()
         return threads, guards
 
     def blocks(self) -> Iterator[Block]:
-        stamp, sets = 0, {"-": ()}  # type: int, dict[str, tuple[int, ...]]
+        stamp = 0
         while self.next is not None and self.next.startswith("block "):
-            yield self.block(stamp, sets)
+            yield self.block(stamp)
             self.take()
             stamp += 1
 
-    def block(self, stamp: int, sets: dict[str, tuple[int, ...]]) -> Block:
+    def block(self, stamp: int) -> Block:
         found = BLOCK.fullmatch(self.next or "")
-        if not found or (found[7] is None) != (self.version == 1):
+        if not found or int(found[1]) != stamp:
             raise self.must(f"the line of block {stamp}")
-        read, thread, turns, held, kind, worker, pc, end = found.groups()
-        if held not in sets:
-            sets[held] = self.held_set(held, stamp)
-        block = Block(int(read), int(thread), int(turns), sets[held], kind, int(worker),
-                      None if pc is None else int(pc, 16), end)
-        if block.stamp != stamp:
-            raise self.must(f"the line of block {stamp}")
+        held = held_of(found[4], self.guards)
+        if held is None:
+            raise self.wrong(stamp, f"held is {found[4]!r}, which is no ascending list of locks below {self.guards}")
+        block = block_of(found, held)
         if block.thread >= self.threads:
             raise self.wrong(stamp, f"there is no thread {block.thread}, but threads 0 to {self.threads - 1}")
         if block.worker >= self.workers:
             raise self.wrong(stamp, f"there is no worker {block.worker}, but workers 0 to {self.workers - 1}")
-        if not 1 <= block.turns <= limits.TURNS or (kind in SECTIONS and not block.held):
+        if not 1 <= block.turns <= limits.TURNS or (block.kind in SECTIONS and not held):
             raise self.wrong(stamp, f"it has 1 to {limits.TURNS} turns, and a section's first block holds its lock")
         return block
 
     def wrong(self, stamp: int, what: str) -> Wrong:
         return Wrong(f"block {stamp}, line {self.number}: {what}")
-
-    def held_set(self, held: str, stamp: int) -> tuple[int, ...]:
-        locks = tuple(int(word) for word in held.split(",") if word and len(word) < 3)
-        if held_text(locks) != held or list(locks) != sorted(set(locks)) or locks[-1] >= self.guards:
-            raise self.wrong(stamp, f"held is {held!r}, which is no ascending list of locks below {self.guards}")
-        return locks
 
     def ends(self) -> None:
         """Reads what stands behind the blocks, as far as it goes."""

@@ -1,7 +1,6 @@
-"""Histories that were changed in one place or two. Each function takes a random.Random and the blocks of a
-history (report.Block), and gives a text. It aims at one of the reasons for which a history is rejected; which
-one it comes to, if any, is told by rejecting.py.
-"""
+"""Histories that were changed in one place or two. Each function takes a random.Random and the blocks of a history
+(report.Block), and gives a text. It aims at one of the reasons for which a history is rejected; which one it comes to,
+if any, is told by rejecting.py."""
 from __future__ import annotations
 
 from random import Random
@@ -12,10 +11,13 @@ from . import report
 
 ENDS = ("wants 0", "unlocked 0", "unlocked 31", "slept", "cut", "exit", "fault 7", "spent")
 HELD = (), (0,), (1, 2), (0, 31), (0, 1, 2, 3, 4)
+# Words in the place of one of a line's.
+ODD = ("", "00", "+0", "32", "4097", str(2**32), "1,0", "2,2", "0,-", "wants 32", "wants 00", "fault 0", "fault 13",
+       "unlocked", "grante", "0 end cut 0")
 
 
 def text_of(blocks: Any) -> str:
-    return "".join(f"{block.line(2)}\n" for block in blocks)
+    return "".join(f"{block.line()}\n" for block in blocks)
 
 
 def with_block(blocks: list[report.Block], place: int, **parts: Any) -> str:
@@ -37,19 +39,12 @@ def spelling(draw: Random, blocks: list[report.Block]) -> str:
     """A line that is none, or a last one without its end."""
     lines = text_of(blocks).splitlines(keepends=True)
     place = draw.randrange(len(lines))
-    line, block = lines[place], blocks[place]
+    line = lines[place]
+    words = line.split(" ")
+    words[draw.randrange(len(words))] = draw.choice(ODD)
     lines[place] = draw.choice((
-        line[:-1], line[:draw.randrange(len(line))], line.replace(" ", "  ", 1), line.upper(), line[:-1] + " \n",
-        "\n" + line, line + "\n", line[:-1] + "\r\n", " " + line, line.replace(" turns ", " turns 0"),
-        line.replace(" thread ", " thread +"), line.replace(f" pc {block.pc:08x}", ""),
-        line.replace(f" pc {block.pc:08x}", f" pc {block.pc:x}"), line.replace(" pc ", " pc 0"),
-        line.replace(f" end {block.end}", draw.choice((" end fault 0", " end fault 13", " end wants 32", " end cut 0",
-                                                       " end wants 00", " end unlocked", " end"))),
-        line.replace(f" held {report.held_text(block.held)} ", draw.choice((" held 32 ", " held 1,0 ", " held 2,2 ", " held 0,- ",
-                                                                            " held  ", " held 00 "))),
-        f"{block._replace(turns=draw.choice((0, limits.TURNS + 1, 2**32))).line(2)}\n",
-        f"{block._replace(thread=2**32 + block.thread).line(2)}\n", f"{block._replace(worker=2**32).line(2)}\n",
-        f"{block._replace(kind=block.kind[:-1]).line(2)}\n", f"{block._replace(stamp=block.stamp + draw.choice((-1, 1))).line(2)}\n"))
+        " ".join(words), line[:-1], line[:draw.randrange(len(line))], line.replace(" ", "  ", 1), line.upper(),
+        "\n" + line, line[:-1] + " \n", line + "\n", line[:-1] + "\r\n", " " + line, line.replace("turns ", "turns 0")))
     return "".join(lines)
 
 

@@ -29,9 +29,7 @@ class Mark(NamedTuple):
             parts.append("away from the thread's own worker")
         if self.moved:
             parts.append(f"{report.locks_text(self.moved)} moved to worker {block.worker}")
-        if block.pc is not None:
-            parts.append(f"pc {block.pc:08x}")
-        return ", ".join(parts) + f", ends {block.end}"
+        return ", ".join((*parts, f"pc {block.pc:08x}", f"ends {block.end}"))
 
 
 class Gap(NamedTuple):
@@ -47,9 +45,8 @@ class Gap(NamedTuple):
 
     def what(self) -> str:
         held = f" with {report.locks_text(self.held)} held" if self.held else ""
-        return {ASLEEP: "asleep", SHIPPED: f"shipped to lock {self.wanted}",
-                WAITING: f"waits for lock {self.wanted}", WANTS: f"wants lock {self.wanted}",
-                HOLDS: "between two blocks"}[self.state] + held
+        return {ASLEEP: "asleep", SHIPPED: f"shipped to lock {self.wanted}", WAITING: f"waits for lock {self.wanted}",
+                WANTS: f"wants lock {self.wanted}", HOLDS: "between two blocks"}[self.state] + held
 
     def sentence(self) -> str:
         return f"thread {self.thread}, blocks {self.first} to {self.last}: {self.what()}"

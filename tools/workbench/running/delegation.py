@@ -1,10 +1,9 @@
-"""Legal histories by the model: workers hand contexts and locks on by the rules of batch, adoption,
-grant and sleep. Several of them take turns in an order that is drawn from a seed; what one worker
-alone does is determined, and the program does the same.
+"""Legal histories by the model: workers hand contexts and locks on by the rules of batch, adoption, grant and sleep.
+Several of them take turns in an order that is drawn from a seed; what one worker alone does is determined, and the
+program does the same.
 
-It is a simulation of the rules and no run of the program. Every block is run by legal.Run, which
-refuses what is not legal.
-"""
+It is a simulation of the rules and no run of the program. Every block is run by legal.Run, which refuses what is not
+legal."""
 from __future__ import annotations
 
 import collections
@@ -33,10 +32,10 @@ class Worker:
 class Hall:
     """Where threads and locks are, and who stands in each lock's line."""
 
-    def __init__(self, guest: model.Guest, workers: int, fuel: int, limit: int, seed: int | None, version: int = 2,
+    def __init__(self, guest: model.Guest, workers: int, fuel: int, limit: int, seed: int | None,
                  nodes: int = 0, bound: int = 0) -> None:
         self.nodes, self.bound = nodes, bound  # without nodes waiters are served in the order in which they came
-        self.run = legal.Run(guest, workers, fuel, limit, version)
+        self.run = legal.Run(guest, workers, fuel, limit)
         self.threads = self.run.machine.threads
         self.place = [READY] * len(self.threads)
         self.granted: list[str | None] = [None] * len(self.threads)  # the kind of a grant that waits to be used
@@ -198,8 +197,8 @@ class Hall:
         return waiter if adopts else None
 
 
-def delegated(guest: model.Guest, fuel: int, workers: int, limit: int, seed: int | None = 0, version: int = 2,
+def delegated(guest: model.Guest, fuel: int, workers: int, limit: int, seed: int | None = 0,
               nodes: int = 0, bound: int = 0, of: type[Hall] = Hall) -> tuple[legal.Run, list[report.Block]]:
     """The run and its blocks that the seed stands for, which one worker alone does not look at."""
-    hall = of(guest, workers, fuel, limit, seed, version, nodes, bound)
+    hall = of(guest, workers, fuel, limit, seed, nodes, bound)
     return hall.run, hall.history()

@@ -1,30 +1,23 @@
-"""Compares orders of a lock's waiters on a guest: a line for each order and each run (CSV).
-
-  entry      as they came: queues of tc_queue
-  nodes      the releaser's node first, within the bound: queues of tc_nodes; worker W is on node W modulo the nodes
-  youngest   the last that came first, within the bound: the example tc_youngest
-
-The runs are those of the programs (`tclocks run`, `tclocks nodes`, `youngest`) where they are built and the
-bound is 8, that of `youngest`; they have no seed. Else they are those of the model, with the same seeds for
-each order. `by` says which. Nothing is said of time. The numbers are sums over the locks:
-"""
+"""Orders of a lock's waiters beside one another."""
 from __future__ import annotations
 
 import argparse
 import csv
+import statistics
 import sys
-from typing import Dict, List, Tuple
+from typing import Dict, List
 
 from .. import limits, progress, tool
 from ..drawing import svg
-from ..guest import guestfile, model
-from ..reports import counts, report
+from ..guest import guestfile
 from . import delegation, program, sweep
 
+ORDERS = "entry", "nodes", "youngest"
 NUMBERS = ("sections", "adopted", "granted", "changes", "waiting", "longest_wait")
 TITLES = {"changes": "changes of a lock's worker", "waiting": "blocks waited, in sum",
           "longest_wait": "longest wait, in blocks"}
 WIDE, LINE, LEFT = 420, 18, 90  # of the picture: the longest bar, a bar's place, and the names
+Rows = Dict[str, List[Dict[str, int]]]  # the numbers of each run, by order
 
 
 class YoungestHall(delegation.Hall):
@@ -39,59 +32,37 @@ class YoungestHall(delegation.Hall):
         return waiting[-1]
 
 
-Row = Tuple[str, int, Dict[str, int]]
+def run(file: bytes, setting: sweep.Setting, order: str) -> sweep.Result:
+    if setting.by == "model":
+        return sweep.by_model((file, setting), YoungestHall if order == "youngest" else delegation.Hall)
+    return sweep.by_program(file, setting, program.YOUNGEST if order == "youngest" else None)
 
 
-def ran(file: bytes, asked: argparse.Namespace, order: str) -> Dict[str, int]:
-    """The numbers of a run by the program of this order."""
-    last = (asked.workers, asked.fuel, asked.batch)
-    nodes = (asked.nodes, asked.bound)
-    words = {"entry": ("run", *last), "nodes": ("nodes", *nodes, *last), "youngest": last}[order]
-    status, text = program.run(words, file, path=program.YOUNGEST if order == "youngest" else None)
-    if status:
-        raise tool.Trouble(tool.WRONG, f"the run by {order} ended with status {status}")
-    read = report.Report(text.splitlines(keepends=True))
-    setting = sweep.Setting("program", asked.workers, asked.batch, 0, asked.bound, asked.fuel, 1, None)
-    return sweep.counted(setting, read, read.blocks()).sums()
-
-
-def made(file: bytes, asked: argparse.Namespace, order: str, seed: int) -> Dict[str, int]:
-    """The numbers of a run in this order by the model."""
-    nodes, hall = asked.nodes * (order == "nodes"), YoungestHall if order == "youngest" else delegation.Hall
-    run, blocks = delegation.delegated(model.Guest(file), asked.fuel, asked.workers, asked.batch, seed,
-                                       nodes=nodes, bound=asked.bound, of=hall)
-    setting = sweep.Setting("model", asked.workers, asked.batch, 0, asked.bound, asked.fuel, 1, seed)
-    return sweep.counted(setting, run, blocks).sums()
-
-
-def picture(name: str, asked: argparse.Namespace, by: str, rows: List[Row]) -> str:
+def picture(name: str, asked: argparse.Namespace, by: str, rows: Rows) -> str:
     """Bars of the means of each order."""
     parts = [svg.label(10, 20, f"{name}: {asked.workers} workers, batch limit {asked.batch}, bound {asked.bound}, "
                        f"means of {asked.runs} runs by the {by}", "h")]
     y = 44
-    orders = list(dict.fromkeys(order for order, _, _ in rows))
     for number, title in TITLES.items():
         parts.append(svg.label(10, y, title, "g"))
-        values = [[row[number] for which, _, row in rows if which == order] for order in orders]
-        means = [sum(found) / len(found) for found in values]
-        for which, (order, mean) in enumerate(zip(orders, means)):
+        means = {order: statistics.mean(run[number] for run in runs) for order, runs in rows.items()}
+        for colour, (order, mean) in zip(svg.COLOURS, means.items()):
             y += LINE
             parts += [svg.label(10, y, order),
-                      svg.box(LEFT, y - 10, WIDE * mean / (max(means) or 1), 12, svg.COLOURS[which]),
+                      svg.box(LEFT, y - 10, WIDE * mean / (max(means.values()) or 1), 12, colour),
                       svg.label(LEFT + WIDE + 6, y, f"{mean:,.1f}")]
         y += 2 * LINE
     return svg.document(LEFT + WIDE + 80, y, svg.STYLE, parts)
 
 
 def asked_of(words: List[str]) -> argparse.Namespace:
-    parser = tool.words("orders", __doc__ + counts.MEANINGS, "guest")
-    for name, (least, most), usual in (("workers", limits.RUN["workers"], 4), ("batch", limits.RUN["batch"], 8),
-                                       ("nodes", (1, limits.NUMBERS["nodes"][1]), 2),
-                                       ("bound", limits.NUMBERS["bound"], program.YOUNGEST_BOUND),
-                                       ("fuel", limits.RUN["fuel"], 20000),
-                                       ("runs", (1, 1000), 3), ("seed", (0, 10**9), 1)):
-        parser.add_argument(f"--{name}", metavar="N", type=tool.number(least, most), default=usual, help=f"({usual})")
-    parser.add_argument("--model", action="store_true", help="the model, even if the programs are built")
+    parser = tool.words("orders", "guest", more="numbers")
+    for name, some, usual in (("workers", limits.RUN["workers"], 4), ("batch", limits.RUN["batch"], 8),
+                              ("nodes", (1, limits.NUMBERS["nodes"][1]), 2),
+                              ("bound", limits.NUMBERS["bound"], program.YOUNGEST_BOUND),
+                              ("fuel", limits.RUN["fuel"], 20000), ("runs", (1, 1000), 3), ("seed", (0, 10**9), 1)):
+        parser.number(f"--{name}", some, f"({usual})", usual)
+    parser.add_argument("--model", action="store_true", help="the model, even where the programs are built")
     parser.add_argument("--plot", metavar="FILE", help="write a picture of the means into it (SVG)")
     asked = parser.parse_args(words)
     if asked.nodes > asked.workers:
@@ -109,14 +80,16 @@ def main(words: List[str]) -> None:
     by = "model" if asked.model or why else "program"
     table = csv.writer(sys.stdout, lineterminator="\n")
     table.writerow(["order", "by", "seed", *NUMBERS])
-    rows: List[Row] = []
-    jobs = [(order, asked.seed + run) for order in ("entry", "nodes", "youngest") for run in range(asked.runs)]
+    rows: Rows = {}
+    jobs = [(order, asked.seed + number) for order in ORDERS for number in range(asked.runs)]
     with progress.Progress("orders", "runs", len(jobs)) as shown:
         for order, seed in shown.each(jobs):
-            numbers = made(file, asked, order, seed) if by == "model" else ran(file, asked, order)
+            setting = sweep.Setting(by, asked.workers, asked.batch, asked.nodes * (order == "nodes"), asked.bound,
+                                    asked.fuel, 1, seed)
+            numbers = run(file, setting, order).sums()
             progress.clear()
             table.writerow([order, by, seed if by == "model" else "", *(numbers[name] for name in NUMBERS)])
-            rows.append((order, seed, numbers))
+            rows.setdefault(order, []).append(numbers)
     sys.stdout.flush()
     if asked.plot and rows:
         tool.write_file(asked.plot, picture(asked.guest.rpartition("/")[2], asked, by, rows))

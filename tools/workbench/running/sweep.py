@@ -1,17 +1,4 @@
-"""Runs a guest with each of some numbers of workers and batch limits, and prints what delegation did: a
-table (CSV) with one line for each run, or with --locks one for each lock of each run.
-
-The runs are those of the program if it is built, else of the model, in the interleavings of its
-seeds; `by` says which. Numbers of a run are sums over its locks, and the greatest of longest and longest_wait;
-seconds are those that the program took; the model has none.
-
-With --nodes the runs are those of `nodes G K W F B`: worker W is on node W modulo G, and a lock is passed on to a
-waiter of the releaser's node first, but to none before one that was passed over K times (--bound). 0 nodes are
-`run W F B`. More nodes than workers are left out. Two more numbers are of a run with nodes:
-
-  changes_of_node   changes of worker between two nodes: so often the lock's bytes went to another node
-  other_node        sections whose home worker is on another node: so often a context did
-"""
+"""Runs with each of some numbers of workers and batch limits: what delegation did in each."""
 from __future__ import annotations
 
 import argparse
@@ -22,7 +9,8 @@ import os
 import signal
 import sys
 import time
-from typing import Any, Callable, Dict, Iterable, Iterator, List, NamedTuple, Optional, Tuple
+from pathlib import Path
+from typing import Any, Dict, Iterable, Iterator, List, NamedTuple, Optional, Tuple
 
 from .. import limits, progress, tool
 from ..drawing import plots
@@ -67,18 +55,6 @@ class Result(NamedTuple):
         return {name: max(column) if name in GREATEST else sum(column) for name, column in columns.items()}
 
 
-def numbers(least: int, most: int) -> Callable[[str], List[int]]:
-    """A type of a word: numbers in these limits with commas between them."""
-    one = tool.number(least, most)
-
-    def read(word: str) -> list[int]:
-        found = [one(part) for part in word.split(",")]
-        if len(set(found)) < len(found):
-            raise argparse.ArgumentTypeError(f"{word!r} has a number twice")
-        return found
-    return read
-
-
 def counted(setting: Setting, shape: Any, blocks: Iterable[report.Block], seconds: str = "") -> Result:
     """The result of a run's blocks; its shape has the numbers of threads, locks and workers."""
     result, owners = counts.Counts(shape), [bytearray() for _ in range(shape.guards)]
@@ -93,11 +69,12 @@ def counted(setting: Setting, shape: Any, blocks: Iterable[report.Block], second
                   sum(worker.turns for worker in result.workers), seconds)
 
 
-def by_program(file: bytes, setting: Setting) -> Result:
-    form = ("nodes", setting.nodes, setting.bound) if setting.nodes else ("run",)
+def by_program(file: bytes, setting: Setting, other: Path | None = None) -> Result:
+    """A run by the program, or by another one, whose words are the last three of its own."""
+    form = ("nodes", setting.nodes, setting.bound) if setting.nodes else ("run",) if other is None else ()
     words = *form, setting.workers, setting.fuel, setting.batch
     began = time.perf_counter()
-    status, text = program.run(words, file)
+    status, text = program.run(words, file, path=other)
     seconds = f"{time.perf_counter() - began:.3f}"
     if status:
         raise tool.Trouble(tool.WRONG, f"tclocks {' '.join(map(str, words))} ended with status {status}")
@@ -105,10 +82,10 @@ def by_program(file: bytes, setting: Setting) -> Result:
     return counted(setting, read, read.blocks(), seconds)
 
 
-def by_model(job: Tuple[bytes, Setting]) -> Result:
+def by_model(job: Tuple[bytes, Setting], hall: type[delegation.Hall] = delegation.Hall) -> Result:
     file, setting = job
-    run, blocks = delegation.delegated(model.Guest(file), setting.fuel, setting.workers, setting.batch, setting.seed or 0,
-                                       nodes=setting.nodes, bound=setting.bound)
+    run, blocks = delegation.delegated(model.Guest(file), setting.fuel, setting.workers, setting.batch,
+                                       setting.seed or 0, nodes=setting.nodes, bound=setting.bound, of=hall)
     return counted(setting, run, blocks)
 
 
@@ -157,13 +134,13 @@ def draw(asked: argparse.Namespace, done: list[Result]) -> None:
 
 
 def asked_of(words: list[str]) -> argparse.Namespace:
-    parser = tool.words("sweep", __doc__ + counts.MEANINGS, "guest")
+    parser = tool.words("sweep", "guest", more="numbers")
     for name, least, usual, letter, says in (
             ("workers", 1, "1,2,4,8", "N", ""), ("batch", 0, "0,1,8,256", "N", ""),
             ("nodes", 0, "0", "G", "of workers; 0 is an order without nodes "),
             ("bound", 0, "4", "K", "so often a waiter may be passed over, with nodes ")):
         parser.add_argument(f"--{name}", metavar=f"{letter},{letter}..", default=usual, help=f"{says}({usual})",
-                            type=numbers(least, limits.NUMBERS[name][1]))
+                            type=tool.numbers(least, limits.NUMBERS[name][1]))
     parser.number("--runs", (1, 1000), "of each (3)", 3)
     parser.number("--fuel", limits.RUN["fuel"], "(20000)", 20000)
     parser.number("--seed", (0, 10**9), "of the model's first run (1)", 1)
