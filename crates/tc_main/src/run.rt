@@ -73,7 +73,7 @@ fn history_in(alloc: Global, packages: &[Package]) -> Result<Vec<&Block>, AllocE
     in_order(alloc, &logs)
 }
 
-/// The parameters of a run: how its workers wait, which queues implement the order of entry, and
+/// The parameters of a run: how its workers wait, which queues stand for `Order::Entry`, and
 /// which observer they call.
 #[derive(Drop)]
 pub(crate) struct Setting<'a, M, G> {
@@ -131,7 +131,7 @@ pub struct WholeRun {
     pub history: Vec<Block>,
 }
 
-/// Runs the guest, in the order of entry, until each thread has ended.
+/// Runs the guest, with the queues of the maker, until each thread has ended.
 pub(crate) fn run_whole<R: Threads + Wait + Sync, M: QueueMaker, G: Gate>(
     rt: &R,
     alloc: Global,
