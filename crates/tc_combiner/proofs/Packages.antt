@@ -46,10 +46,6 @@ wants_runs q i w = elim (is_running q.context.guest.status) as (λ (b : Bool). i
   | false ↦ λ e. let f : Some i ≡ None = sym w ∙ ap (λ (x : Bool). if x then next_lock q.image (thread_in q.context) else None) e in let n : ⊥ = cc in absurd n
 ] refl
 
-pub none_is : {A : Type 0} (o : Option A) → ((a : A) → o ≡ Some a → ⊥) → o ≡ None
-none_is None h = refl
-none_is (Some a) h = absurd (h a refl)
-
 pub not_some : {A : Type 0} (o : Option A) → is_some o ≡ false → o ≡ None
 not_some None e = refl
 not_some (Some a) e = let n : ⊥ = cc in absurd n

@@ -4,9 +4,6 @@ use Rattle.tc_combiner.proofs.Vocabulary.{DeskView, DidRun, DidSeal, Has, IsOut,
 use Rattle.tc_hall.proofs.Outs.{is_there, same_outs}
 use Rattle.tc_lemmas.proofs.Tests.{eq_self}
 
-pub none_some : {A : Type 0} (o : Option A) (a : A) → o ≡ None → o ≡ Some a → ⊥
-none_some o a e f = cc (e, f)
-
 -- the hall may seal it
 pub may_seal : (d : DeskView) (q : PackageView) → MayCommit d q → Seals d.pass.knows q
 may_seal d q m =

@@ -1,5 +1,5 @@
 -- The tie of lines over a whole order of a queue's calls and the machine's events.
-use Rattle.std.proofs.Common.{◌≡◌, ◌⊎◌, ℕ, suc, ◌+◌, ◌==◌, not, Bool, true, false, cond, List, [], ◌∷◌, ◌++◌, length, length-append, map, refl, sym, ap, ◌∙◌, subst, ⊎_elim, inl, inr, append_assoc, append-nil, arith, Option, Some, None, eqb-true, eq-eqb}
+use Rattle.std.proofs.Common.{◌≡◌, ◌⊎◌, ℕ, suc, ◌+◌, ◌==◌, not, Bool, true, false, cond, List, [], ◌∷◌, ◌++◌, length, length-append, refl, sym, ap, ◌∙◌, subst, ⊎_elim, inl, inr, append_assoc, append-nil, arith, Option, Some, None, eqb-true, eq-eqb}
 use Rattle.std.proofs.lemmas.Bool.{and_parts}
 use Rattle.std.proofs.lemmas.List.{map-append}
 use Rattle.std.proofs.lemmas.Option.{none-some, same_Some}
@@ -26,7 +26,7 @@ use Rattle.tc_queue.specs.Calls.{answer_to_enter, answer_to_leave, tail_without,
 use Rattle.tc_queue.specs.Laws as queue
 use Rattle.tc_queue.specs.Laws.{Shows}
 use Rattle.tc_queue.specs.Order.{Plain, Made, IsLegal, MayCome, queue_after, plain_after, calls_of}
-use Rattle.tc_queue.proofs.Orders.{WasEntered, served}
+use Rattle.tc_queue.proofs.Orders.{WasEntered, served, threads_of}
 use Rattle.tc_combiner.specs.Ties.{line_of}
 use Rattle.tc_combiner.proofs.Ties.{entered_line, left_line, enter_ties, leave_ties}
 use Rattle.tc_lemmas.proofs.Tests.{eq_self}
@@ -151,9 +151,6 @@ order_tie enter leave image limits c n lock (Other e ∷ before) g =
     by_pass false here is = subst (Shows (queue_after (calls_in before)).tail) (sym (other_line image core lock e g.others.0 ∙ ap (λ (b : Bool). cond b (rest_of (line_of core lock)) (line_of core lock)) here)) is
 
 -- ---- the turns in the line
-
-abbrev pub threads_of : List Turn → List ℕ
-threads_of us = map (λ (u : Turn). u.thread) us
 
 rest_is : (us : List Turn) → rest_of (threads_of us) ≡ threads_of (without_first us)
 rest_is [] = refl

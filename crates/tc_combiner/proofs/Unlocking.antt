@@ -8,10 +8,11 @@ use Rattle.std.proofs.lemmas.Nat.Bits.{bit_at-zero, bit_at_or, bit_at-pow_other}
 use Rattle.std.specs.Int.{bit_at}
 use Rattle.std.specs.Prelude.{◌^◌, bit_or}
 use Rattle.tc_isa.specs.Sets.{with_lock}
+use Rattle.tc_hall.proofs.Cases.{none_of}
 use Rattle.tc_combiner.proofs.Acting.{acts_beside, acts_then, at_after, takes_none, takes_then}
 use Rattle.tc_combiner.proofs.Answering.{back_answers, keeps_answers, then_answers, then_at, wider}
 use Rattle.tc_combiner.proofs.Looking.{looks_further}
-use Rattle.tc_combiner.proofs.Packages.{good_order, no_other, none_is, plain_gives, releases_uncut, ungranted_fits}
+use Rattle.tc_combiner.proofs.Packages.{good_order, no_other, plain_gives, releases_uncut, ungranted_fits}
 use Rattle.tc_combiner.proofs.PassedOn.{few_followed, few_more, left_after}
 use Rattle.tc_combiner.proofs.Owning.{place_here, place_other, swap, without_first}
 
@@ -51,7 +52,7 @@ alone_holds q b i run limit s e r a j =
     (λ (ne : j ≢ i). held ∙ and_left (has b.held j) _ (ap (λ (h : ℕ). has h j) (adopts_only b i run limit a) ∙ with_other i j ne))
 
 none_in : (p : PackageView) → HasOnlyHeld p → HoldsNone p → HasNone p
-none_in p h n j = none_is (locked_in p j) (λ l e. let y = h j l e in let z = n j in let n : ⊥ = cc in n)
+none_in p h n j = none_of (locked_in p j) (λ l e. let y = h j l e in let z = n j in let n : ⊥ = cc in n)
 
 -- the package without the lock may go on, and be set aside where a waiter was adopted behind it
 pub may_go_on : (v : Knows) (k : HallTerms) (i : ℕ) (b : Block) (l : LockView) (q p : PackageView) → MayUnlock k v i b q → v.image ≡ k.image.value → DidTakeOut i l q p → MayGoOn k p

@@ -11,7 +11,6 @@ ghost use Rattle.tc_main.specs.declared.status.Status.TheVariants.{Refused, Reje
 ghost use Rattle.tc_main.specs.declared.words.Command.{Command as AnyCommand};
 
 use crate::demo::run_summary;
-use crate::made::ByEntry;
 use crate::replay::{guest_of, replay_profile, replay_report, replayed};
 use crate::run::{Setting, run_report};
 use crate::status::Status;
@@ -27,7 +26,7 @@ use tc_io::{ReadAll, Sink, Source, Word, read_all};
 use tc_queue::Waiters;
 use tc_replay::reason::Rejected;
 use tc_report::written::{Written, write_text};
-use tc_seats::QueueMaker;
+use tc_seats::{ByEntry, QueueMaker};
 use tc_workers::gate::Gate;
 
 /// The usage line of the program.

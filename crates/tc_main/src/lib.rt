@@ -10,10 +10,9 @@
 //!
 //! - `words`: what the arguments ask for. `order`: the order in which a lock's waiters are served.
 //!   `run`: a run by workers, from the image to the report. `nodes`: a run by workers that belong
-//!   to NUMA nodes. `made`: a run with the queues of a maker. `own`: runs for your own programs, to
-//!   a report or to values. `demo`: a run of the generator's guest, to the summary. `replay`: a
-//!   finished history, to its report or its profile. `wrong`: why there is no text. `answer`: the
-//!   answer to the arguments and the source.
+//!   to NUMA nodes. `own`: runs for your own programs, to a report or to values. `demo`: a run of
+//!   the generator's guest, to the summary. `replay`: a finished history, to its report or its
+//!   profile. `wrong`: why there is no text. `answer`: the answer to the arguments and the source.
 //! - `build`, `generate`: files of guests, of tc_build. `options`: the options of a run, of tc_isa.
 //!   `gate`: observers of its workers, of tc_workers. `report`, `summary`: the texts of a report
 //!   and of a summary, of tc_report.
@@ -30,7 +29,6 @@ pub mod counts;
 pub mod delegation;
 mod demo;
 pub mod existence;
-pub mod made;
 mod nodes;
 pub mod order;
 pub mod own;
@@ -53,4 +51,5 @@ pub use crate::words::options_of;
 pub use tc_build::{build, generate};
 pub use tc_isa::options;
 pub use tc_report::{report, summary};
+pub use tc_seats::ByEntry;
 pub use tc_workers::gate;

@@ -12,7 +12,6 @@ ghost use Rattle.tc_main.specs.Top.{IsReportOf};
 ghost use Rattle.tc_report.specs.Written.{Wrote};
 ghost use Rattle.tc_workers.specs.Run.{IsWholeRun};
 
-use crate::made::run_made;
 use crate::nodes::run_nodes;
 use crate::order::Order;
 use std::alloc::{AllocError, Global};
@@ -31,6 +30,7 @@ use tc_report::written::Written;
 use tc_seats::QueueMaker;
 use tc_segment::state::LockState;
 use tc_workers::gate::Gate;
+use tc_workers::run_made;
 
 /// The invariant of each of the lock states. A lemma: it goes over them without effect.
 fn keep(locks: &[LockState])

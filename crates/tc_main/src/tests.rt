@@ -2,7 +2,6 @@
 
 ghost use Rattle.std.specs.Prelude.{◌≤◌, length};
 
-use crate::made::ByEntry;
 use crate::run::{Setting, WholeRun, run_whole};
 use crate::status::{Status, exit_of};
 use std::alloc::Global;
@@ -15,6 +14,7 @@ use tc_elf::load::load;
 use tc_isa::options::Options;
 use tc_replay::reason::{Reason, Rejected};
 use tc_report::report::report;
+use tc_seats::ByEntry;
 use tc_workers::gate::Open;
 
 /// A history that ends before its first block.

@@ -8,6 +8,7 @@ use Rattle.std.proofs.lemmas.Map.Steps.{length-le_from_distinct_below}
 use Rattle.std.proofs.lemmas.Option.{none-some, same_Some}
 use Rattle.tc_queue.specs.declared.turn.Turn.{Turn}
 use Rattle.tc_queue.specs.declared.turn.Departure.TheVariants.{Left, Followed}
+use Rattle.tc_queue.proofs.Orders.{threads_of}
 use Rattle.tc_nodes.specs.declared.line.Waiter.{Waiter}
 use Rattle.tc_nodes.specs.declared.cells.Placed.{Placed}
 use Rattle.tc_nodes.specs.declared.step.Entered.TheVariants.{First, Behind}
@@ -90,9 +91,6 @@ apart_middle (x ∷ xs) t ys are =
     ap (λ (b : Bool). b || is_in t xs) (other_way x t ne) ∙ apart_middle xs t ys are.1
 
 -- ---- the threads of turns
-
-abbrev pub threads_of : List Turn → List ℕ
-threads_of us = map (λ (u : Turn). u.thread) us
 
 has_thread : (u : Turn) (ws : List Waiter) → has_turn u ws ≡ true → is_in u.thread (threads_of (turns_of ws)) ≡ true
 has_thread u [] e = absurd (falsely (sym e))

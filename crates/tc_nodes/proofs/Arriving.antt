@@ -1,6 +1,7 @@
 -- Turns are read from the cells in the order in which they entered.
 use Rattle.std.proofs.Common.{◌≡◌, ◌≢◌, ◌⊎◌, ℕ, zero, suc, ◌+◌, ◌^◌, ◌%◌, ◌≤◌, ◌<◌, ◌==◌, Bool, true, false, cond, List, [], ◌∷◌, ◌++◌, length, length-append, map, sym, refl, ap, ◌∙◌, subst, ⊎_elim, inl, inr, append_assoc, append-nil, arith, Option, Some, None, eqb-true}
 use Rattle.std.proofs.lemmas.List.{map-append}
+use Rattle.std.proofs.lemmas.List.Elements.{All-tail}
 use Rattle.std.proofs.lemmas.Bool.{eqb-false}
 use Rattle.std.proofs.lemmas.Option.{none-some, same_Some}
 use mathlib.Core.Option.{some, some-injective, some-ne-none}
@@ -18,7 +19,6 @@ use Rattle.tc_nodes.specs.declared.board.NodeTerms.{NodeTerms}
 use Rattle.tc_nodes.specs.Picks.{arriving}
 use Rattle.tc_nodes.specs.Order.{Plain, Made, next_to, answer_to_enter, answer_to_leave, plain_after, queue_after, calls_of, MayLink, MayCome, IsLegal, with_cell}
 use Rattle.tc_nodes.specs.Served.{op_of, ops_of, answers_of, served, entry_of, entries_of, HasRoom, AreOnNode, KeepsArrivals, KeepsEntry}
-use Rattle.tc_nodes.proofs.Lists.{all_rest}
 use Rattle.tc_nodes.proofs.Ran.{arriving-append}
 use Rattle.tc_nodes.proofs.Served.{turns_of, served_after, oldest_after, PicksOldest}
 use Rattle.tc_lemmas.proofs.Lists.{in_range, at_end}
@@ -427,7 +427,7 @@ legal_before k (m ∷ upper) lower legal = legal_before k upper lower legal.1
 
 on_before : (node : ℕ) (upper lower : List Made) → AreOnNode node (upper ++ lower) → AreOnNode node lower
 on_before node [] lower on = on
-on_before node (m ∷ upper) lower on = on_before node upper lower (all_rest (λ (x : Made). (place other : ℕ) (u : Turn) → x.call ≡ Link place u other → other ≡ node) m (upper ++ lower) on)
+on_before node (m ∷ upper) lower on = on_before node upper lower (All-tail (λ (x : Made). (place other : ℕ) (u : Turn) → x.call ≡ Link place u other → other ≡ node) m (upper ++ lower) on)
 
 pub keeps_entry : KeepsEntry
 keeps_entry k s r low room takes none_preferred =

@@ -1,4 +1,3 @@
-pub mod Lists
 pub mod Steady
 pub mod Turns
 pub mod Past

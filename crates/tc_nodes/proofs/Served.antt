@@ -1,6 +1,7 @@
 -- Who is served, over the one order of all steps: the picks of the definition, and where nobody is preferred those who were read first.
 use Rattle.std.proofs.Common.{◌≡◌, ◌≢◌, ◌⊎◌, ℕ, ◌==◌, ◌%◌, Bool, true, false, cond, List, [], ◌∷◌, ◌++◌, map, sym, refl, ap, ◌∙◌, subst, inl, inr, append_assoc, append-nil, arith, Option, Some, None, eq-eqb}
 use Rattle.std.proofs.lemmas.List.{map-append}
+use Rattle.std.proofs.lemmas.List.Elements.{All-tail}
 use Rattle.std.proofs.lemmas.Option.{none-some, same_Some}
 use Rattle.tc_queue.specs.declared.turn.Turn.{Turn}
 use Rattle.tc_queue.specs.declared.turn.Departure.TheVariants.{Left, Followed}
@@ -16,7 +17,6 @@ use Rattle.tc_nodes.specs.Line.{is_turn, is_refused, newcomer, line_without, lin
 use Rattle.tc_nodes.specs.Picks.{arrivals, has_come, picks, arriving, HaveComeOnce}
 use Rattle.tc_nodes.specs.Order.{Plain, Made, plain_after, queue_after, calls_of, MayCome, IsLegal, takes_in, stand_after, pick_of, with_cell}
 use Rattle.tc_nodes.specs.Served.{op_of, ops_of, answer_of, answers_of, served, RefusesNone, AreOnNode, KeepsPicks}
-use Rattle.tc_nodes.proofs.Lists.{all_rest}
 use Rattle.tc_nodes.proofs.Turns.{turn_self, new_one}
 use Rattle.tc_nodes.proofs.Past.{line_of, line_arrived}
 use Rattle.tc_nodes.proofs.Ran.{history_more, arrivals_after, is_past, once_before, arriving-append, past_of, line_of_ops, gives, adds_none}
@@ -65,7 +65,7 @@ says_after : (k : NodeTerms) (order : List Made) → IsLegal k order → Refuses
 says_after k [] legal takes once = (refl, refl)
 says_after k (m ∷ before) legal takes once =
     by_call m.call legal.0 (takes 0 m (omega arith)) once
-    (says_after k before legal.1 (all_rest (λ (n : Made). (number : ℕ) (p : Placed) → n.call ≢ Read number (Some p) false) m before takes) (once_before (ops_of before) (op_of m.call) once))
+    (says_after k before legal.1 (All-tail (λ (n : Made). (number : ℕ) (p : Placed) → n.call ≢ Read number (Some p) false) m before takes) (once_before (ops_of before) (op_of m.call) once))
   where
     most : ℕ
     most = k.bound
@@ -148,7 +148,7 @@ cell_on n q i c all is j = by_test (j == i)
 
 pub on_after : (n : ℕ) (k : NodeTerms) (order : List Made) → IsLegal k order → AreOnNode n order → IsOn n (queue_after k order)
 on_after n k [] legal on = record { cells = λ j p e. absurd (none-some p e); waiting = tt }
-on_after n k (m ∷ before) legal on = by_call m.call legal.0 (on 0 m (omega arith)) (on_after n k before legal.1 (all_rest (λ (x : Made). (place other : ℕ) (u : Turn) → x.call ≡ Link place u other → other ≡ n) m before on))
+on_after n k (m ∷ before) legal on = by_call m.call legal.0 (on 0 m (omega arith)) (on_after n k before legal.1 (All-tail (λ (x : Made). (place other : ℕ) (u : Turn) → x.call ≡ Link place u other → other ≡ n) m before on))
   where
     q : Plain
     q = queue_after k before
@@ -231,45 +231,33 @@ served_picked most ops node (o ∷ ws) given oldest is =
     ∙ (sym (append_assoc (served given) (o.turn ∷ []) (turns_of ws))
     ∙ (λ i. sym (served-append given (Some o.turn ∷ [])) i ++ turns_of (cond (sym (turn_self o.turn) i) ws (passed_over o ∷ line_without o.turn ws))))))
 
+-- a step more
+served_step : (k : NodeTerms) (q : Plain) (seat : ℕ) (calls : List LineStep) (ops : List Op) (given : List (Option Turn)) → q.stand.line.bound ≡ k.bound → PicksOldest k.bound q.stand.line.waiting
+    → (c : LineStep) → MayCome k q seat calls c → ((number : ℕ) (p : Placed) → c ≢ Read number (Some p) false) → IsServed ops q.stand.line.waiting given
+    → IsServed (ops ++ op_of c) (plain_after q seat c).stand.line.waiting (given ++ answer_of c)
+served_step k q seat calls ops given of oldest (Read number (Some p) took) may none is =
+    subst (λ (l : List Waiter). IsServed (ops ++ Arrive p.turn p.node ∷ []) l (given ++ [])) (sym (let_in p.turn p.node q.stand number took may.3 none)) (served_read ops p.turn p.node q.stand.line.waiting given is)
+served_step k q seat calls ops given of oldest (Next u node a) may none is =
+    let ws : List Waiter = q.stand.line.waiting in
+    let said : a ≡ picked k.bound node ws = may.2 ∙ ap (λ (b : ℕ). picked b node ws) of in
+    subst (λ (z : Option Turn). IsServed (ops ++ Pick node ∷ []) (line_after z ws) (given ++ a ∷ [])) may.2
+    (subst (λ (z : Option Turn). IsServed (ops ++ Pick node ∷ []) (line_after z ws) (given ++ z ∷ [])) (sym said) (served_picked k.bound ops node ws given oldest is))
+served_step k q seat calls ops given of oldest (Enter u a) may none is = served_same ops q.stand.line.waiting given is
+served_step k q seat calls ops given of oldest (Link place u node) may none is = served_same ops q.stand.line.waiting given is
+served_step k q seat calls ops given of oldest (Take true) may none is = served_same ops q.stand.line.waiting given is
+served_step k q seat calls ops given of oldest (Take false) may none is = served_same ops q.stand.line.waiting given is
+served_step k q seat calls ops given of oldest (Read number None took) may none is = served_same ops q.stand.line.waiting given is
+served_step k q seat calls ops given of oldest (Stay u) may none is = served_same ops q.stand.line.waiting given is
+served_step k q seat calls ops given of oldest (Leave u Left) may none is = served_same ops q.stand.line.waiting given is
+served_step k q seat calls ops given of oldest (Leave u Followed) may none is = served_same ops q.stand.line.waiting given is
+served_step k q seat calls ops given of oldest Back may none is = served_same ops q.stand.line.waiting given is
+
 pub served_after : (k : NodeTerms) (order : List Made) → IsLegal k order → RefusesNone order → ((before after : List Made) → order ≡ after ++ before → PicksOldest k.bound (queue_after k before).stand.line.waiting)
     → IsServed (ops_of order) (queue_after k order).stand.line.waiting (answers_of order)
 served_after k [] legal takes oldest = refl
 served_after k (m ∷ before) legal takes oldest =
-    by_call m.call legal.0 (takes 0 m (omega arith))
-    (served_after k before legal.1 (all_rest (λ (n : Made). (number : ℕ) (p : Placed) → n.call ≢ Read number (Some p) false) m before takes) (λ lower upper e. oldest lower (m ∷ upper) (ap (λ (l : List Made). m ∷ l) e)))
-  where
-    q : Plain
-    q = queue_after k before
-
-    ws : List Waiter
-    ws = q.stand.line.waiting
-
-    ops : List Op
-    ops = ops_of before
-
-    given : List (Option Turn)
-    given = answers_of before
-
-    bound_is : q.stand.line.bound ≡ k.bound
-    bound_is = (sound_after k before legal.1).line.of_bound
-
-    by_call : (c : LineStep) → MayCome k q m.seat (calls_of m.seat before) c → ((number : ℕ) (p : Placed) → c ≢ Read number (Some p) false) → IsServed ops ws given
-        → IsServed (ops ++ op_of c) (plain_after q m.seat c).stand.line.waiting (given ++ answer_of c)
-    by_call (Enter u a) may none is = served_same ops ws given is
-    by_call (Link place u node) may none is = served_same ops ws given is
-    by_call (Take true) may none is = served_same ops ws given is
-    by_call (Take false) may none is = served_same ops ws given is
-    by_call (Read number None took) may none is = served_same ops ws given is
-    by_call (Read number (Some p) took) may none is =
-        subst (λ (l : List Waiter). IsServed (ops ++ Arrive p.turn p.node ∷ []) l (given ++ [])) (sym (let_in p.turn p.node q.stand number took may.3 none)) (served_read ops p.turn p.node ws given is)
-    by_call (Next u node a) may none is =
-        let said : a ≡ picked k.bound node ws = may.2 ∙ ap (λ (b : ℕ). picked b node ws) bound_is in
-        subst (λ (z : Option Turn). IsServed (ops ++ Pick node ∷ []) (line_after z ws) (given ++ a ∷ [])) may.2
-        (subst (λ (z : Option Turn). IsServed (ops ++ Pick node ∷ []) (line_after z ws) (given ++ z ∷ [])) (sym said) (served_picked k.bound ops node ws given (oldest before (m ∷ []) refl) is))
-    by_call (Stay u) may none is = served_same ops ws given is
-    by_call (Leave u Left) may none is = served_same ops ws given is
-    by_call (Leave u Followed) may none is = served_same ops ws given is
-    by_call Back may none is = served_same ops ws given is
+    served_step k (queue_after k before) m.seat (calls_of m.seat before) (ops_of before) (answers_of before) (sound_after k before legal.1).line.of_bound (oldest before (m ∷ []) refl) m.call legal.0 (takes 0 m (omega arith))
+    (served_after k before legal.1 (All-tail (λ (n : Made). (number : ℕ) (p : Placed) → n.call ≢ Read number (Some p) false) m before takes) (λ lower upper e. oldest lower (m ∷ upper) (ap (λ (l : List Made). m ∷ l) e)))
 
 -- where the bound is 0, or all are on one node
 pub oldest_after : (k : NodeTerms) (order : List Made) → IsLegal k order → (k.bound ≡ 0) ⊎ ((node : ℕ) × AreOnNode node order) → PicksOldest k.bound (queue_after k order).stand.line.waiting

@@ -1,5 +1,6 @@
 -- Each kind of step keeps the rule of the queue.
 use Rattle.std.proofs.Common.{◌≡◌, ◌≢◌, ℕ, ◌+◌, ◌%◌, ◌^◌, ◌<◌, ◌≤◌, ◌==◌, Bool, true, false, cond, List, [], ◌∷◌, ◌++◌, All, length, set, sym, refl, ap, ◌∙◌, subst, ⊎_elim, arith, Option, Some, None, slice_index, length-set, length-append, get_or-set_other, get_or-set_same, eqb-true, eq-eqb, ne_eqb}
+use Rattle.std.proofs.lemmas.List.Elements.{All-cons, All-tail}
 use mathlib.Core.Logic.{dite}
 use mathlib.Core.Option as maybe
 use mathlib.Core.Option.{none, some, some-injective, some-ne-none}
@@ -12,7 +13,6 @@ use Rattle.tc_queue.specs.declared.turn.Turn.{Turn}
 use Rattle.tc_queue.specs.declared.turn.Departure.{Departure}
 use Rattle.tc_queue.specs.declared.turn.Departure.TheVariants.{Left, Followed}
 use Rattle.tc_queue.specs.Words.{IsTurn}
-use Rattle.tc_queue.proofs.Orders.{all_more}
 use Rattle.tc_nodes.specs.declared.cells.Placed.{Placed}
 use Rattle.tc_nodes.specs.declared.step.LineStep.{LineStep}
 use Rattle.tc_nodes.specs.declared.step.LineStep.TheVariants.{Enter, Link, Take, Read, Next, Stay, Leave, Back}
@@ -22,7 +22,6 @@ use Rattle.tc_nodes.specs.declared.board.Known.{Known}
 use Rattle.tc_nodes.specs.Cells.{cell_word, cell_at, word_of_cell}
 use Rattle.tc_nodes.specs.Order.{next_to, answer_to_enter, answer_to_leave, takes_in, stand_after, pick_of, without_pick, stand_left, entered_left, home_with, Plain, plain_after, with_cell, MayLink, is_home, MayCome, Made, calls_of, queue_after, line_word, AreWords, slot_of, hand_of, known_of, known_beside, IsOrdered}
 use Rattle.tc_nodes.specs.Steps.{with_call, with_hand, IsFound, took, missed, did_read, did_next, did_stay, did_leave, did_put_back, Enters, Links, Takes, Reads, Returns, Stays, Leaves, PutsBack}
-use Rattle.tc_nodes.proofs.Lists.{all_rest}
 use Rattle.tc_nodes.proofs.Sound.{IsSound, sound_after, cell_back}
 use Rattle.tc_lemmas.proofs.Lists.{in_range, at_end}
 
@@ -120,7 +119,7 @@ module _ (k : NodeTerms) (s : State Stand Known) (r : IsOrdered k s) (id : ℕ) 
     words = are;
     slot = slot;
     seats = seats;
-    made = all_more (λ (m : Made). m.seat < length (set s.views id w)) made r.order (subst (λ (n : ℕ). id < n) (sym (length-set s.views id w)) (in_range s.views id v at)) (subst (λ (n : ℕ). All (λ (m : Made). m.seat < n) r.order) (sym (length-set s.views id w)) r.made);
+    made = All-cons (λ (m : Made). m.seat < length (set s.views id w)) made r.order (subst (λ (n : ℕ). id < n) (sym (length-set s.views id w)) (in_range s.views id v at)) (subst (λ (n : ℕ). All (λ (m : Made). m.seat < n) r.order) (sym (length-set s.views id w)) r.made);
   }
     where
       made : Made
@@ -364,12 +363,12 @@ pub no_calls : (id : ℕ) (order : List Made) → All (λ (m : Made). m.seat < i
 no_calls id [] all = refl
 no_calls id (m ∷ before) all =
     let low : m.seat < id = all 0 m (omega arith) in
-    ap (λ (b : Bool). cond b (calls_of id before ++ m.call ∷ []) (calls_of id before)) (ne_eqb m.seat id (λ e. omega arith)) ∙ no_calls id before (all_rest (λ (m : Made). m.seat < id) m before all)
+    ap (λ (b : Bool). cond b (calls_of id before ++ m.call ∷ []) (calls_of id before)) (ne_eqb m.seat id (λ e. omega arith)) ∙ no_calls id before (All-tail (λ (m : Made). m.seat < id) m before all)
 
 -- who has the line out has made a step
 holder_made : (k : NodeTerms) (order : List Made) (n id : ℕ) → All (λ (m : Made). m.seat < n) order → (queue_after k order).holder ≡ Some id → id < n
 holder_made k [] n id all e = absurd (cc e)
-holder_made k (m ∷ before) n id all e = by_call m.call (holder_made k before n id (all_rest (λ (m : Made). m.seat < n) m before all)) e
+holder_made k (m ∷ before) n id all e = by_call m.call (holder_made k before n id (All-tail (λ (m : Made). m.seat < n) m before all)) e
   where
     low : m.seat < n
     low = all 0 m (omega arith)

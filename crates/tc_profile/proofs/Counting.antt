@@ -89,13 +89,13 @@ changes_behind-push before (m ∷ ns) n = omega (arith, changes_behind-push (Som
 pub changes_in-push : (ns : List ℕ) (n : ℕ) → changes_behind None (ns ++ n ∷ []) ≡ changes_behind None ns + one_if (is_other (last_in ns) n)
 changes_in-push ns n = changes_behind-push None ns n ∙ ap (λ o. changes_behind None ns + one_if (is_other o n)) (last_behind-none ns)
 
-one_if-le : (v : Bool) → one_if v ≤ 1
-one_if-le true = omega arith
-one_if-le false = omega arith
-
 pub changes_behind-le : (before : Option ℕ) (ns : List ℕ) → changes_behind before ns ≤ length ns
 changes_behind-le before [] = omega arith
-changes_behind-le before (n ∷ ns) = omega (arith, changes_behind-le (Some n) ns, one_if-le (is_other before n))
+changes_behind-le before (n ∷ ns) = by (is_other before n) (changes_behind-le (Some n) ns)
+  where
+    by : (v : Bool) → changes_behind (Some n) ns ≤ length ns → one_if v + changes_behind (Some n) ns ≤ suc (length ns)
+    by true le = omega arith
+    by false le = omega arith
 
 -- ---- streaks
 

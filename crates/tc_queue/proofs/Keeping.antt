@@ -1,7 +1,8 @@
 -- Each kind of step keeps the rule of the queue.
-use Rattle.std.proofs.Common.{◌≡◌, ◌≢◌, ◌⊎◌, ℕ, zero, suc, ◌+◌, ◌<◌, ◌==◌, Bool, cond, List, [], ◌∷◌, ◌++◌, All, length, set, sym, refl, ap, ◌∙◌, subst, ⊎_elim, inl, inr, arith, Option, Some, slice_index, length-set, length-append, get_or-set_other, get_or-set_same, eq-eqb, ne_eqb}
+use Rattle.std.proofs.Common.{◌≡◌, ◌≢◌, ℕ, ◌+◌, ◌<◌, ◌==◌, Bool, cond, List, [], ◌∷◌, ◌++◌, All, length, set, sym, refl, ap, ◌∙◌, subst, ⊎_elim, arith, Option, Some, slice_index, length-set, length-append, get_or-set_other, get_or-set_same, eq-eqb, ne_eqb}
+use Rattle.std.proofs.lemmas.List.Elements.{All-cons}
 use mathlib.Core.Logic.{dite}
-use mathlib.Core.Option.{none, some, some-injective, some-ne-none}
+use mathlib.Core.Option.{none, some}
 use native.Mathlib.Decide.{ℕ_discrete}
 use prog.Atomic.{either}
 use lib.ListN.{get_elem?}
@@ -17,7 +18,7 @@ use Rattle.tc_queue.specs.Calls.{answer_to_enter, answer_to_next, answer_to_leav
 use Rattle.tc_queue.specs.Order.{Plain, Made, plain_after, queue_after, calls_of, MayCome, tail_word, word_of_link, AreWords, log_beside, IsOrdered}
 use Rattle.tc_queue.specs.Steps.{Enters, Links, Looks, Leaves}
 use Rattle.tc_queue.proofs.Packed.{word_without}
-use Rattle.tc_queue.proofs.Orders.{IsSound, sound_after, no_calls, all_more}
+use Rattle.tc_queue.proofs.Orders.{IsSound, sound_after, no_calls}
 use Rattle.tc_lemmas.proofs.Lists.{in_range, at_end}
 
 -- ---- one call more
@@ -37,7 +38,7 @@ module _ (n : ℕ) (s : State ℕ SeatLog) (r : IsOrdered n s) (id : ℕ) (v : S
     legal = (subst (λ (l : List QueueCall). MayCome n (queue_after r.order) l c) (ap (λ (z : SeatLog). z.calls) log_is) may, r.legal);
     words = are;
     seats = seats;
-    made = all_more (λ (m : Made). m.seat < length (set s.views id (with_call v c))) made r.order (subst (λ (k : ℕ). id < k) (sym (length-set s.views id (with_call v c))) (in_range s.views id v at)) (subst (λ (k : ℕ). All (λ (m : Made). m.seat < k) r.order) (sym (length-set s.views id (with_call v c))) r.made);
+    made = All-cons (λ (m : Made). m.seat < length (set s.views id (with_call v c))) made r.order (subst (λ (k : ℕ). id < k) (sym (length-set s.views id (with_call v c))) (in_range s.views id v at)) (subst (λ (k : ℕ). All (λ (m : Made). m.seat < k) r.order) (sym (length-set s.views id (with_call v c))) r.made);
   }
     where
       made : Made

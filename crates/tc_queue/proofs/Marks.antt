@@ -1,6 +1,7 @@
 -- What the list of any order of waiters says of a queue's own.
-use Rattle.std.proofs.Common.{◌≡◌, ◌≢◌, ℕ, zero, suc, ◌^◌, ◌<◌, ◌≤◌, List, [], ◌∷◌, ◌++◌, length, length-append, map, refl, sym, ap, ◌∙◌, subst, arith}
-use mathlib.Core.Option.{some, some-injective, some-ne-none}
+use Rattle.std.proofs.Common.{◌≡◌, ◌≢◌, ℕ, ◌^◌, ◌<◌, ◌≤◌, List, [], ◌∷◌, ◌++◌, length, length-append, map, refl, sym, ap, ◌∙◌, subst, arith}
+use Rattle.std.proofs.lemmas.List.{map_push}
+use mathlib.Core.Option.{some}
 use lib.ListN.{get_elem?}
 use Rattle.atomic_table.proofs.Lists.{at_last, at_map}
 use Rattle.tc_queue.specs.declared.turn.Turn.{Turn}
@@ -72,10 +73,6 @@ just_entered calls before u b is = let at = at_its_end calls before (Enter u (Be
 just_entered_line : (calls before : List line.LineCall) (u : Turn) (mark : ℕ) → calls ≡ before ++ line.Enter u (line.Behind mark) ∷ [] → MayLinkTo calls u mark
 just_entered_line calls before u mark is = let at = at_its_end calls before (line.Enter u (line.Behind mark)) is in (at.0, at.1, λ j other later. at.2 j (line.Link other u) later)
 
-map_snoc : {A B : Type 0} (f : A → B) (xs : List A) (x : A) → map f (xs ++ x ∷ []) ≡ map f xs ++ f x ∷ []
-map_snoc f [] x = refl
-map_snoc f (y ∷ ys) x = ap (λ l. f y ∷ l) (map_snoc f ys x)
-
 pub may_now : (v w : SeatLog) (u b place : Turn) (a : Entered) → w ≡ with_call v (Enter u a) → a ≡ Behind b → b ≡ place → MayLinkTo (map call_as w.calls) u (mark_of place)
 may_now v w u b place a is behind same = just_entered_line (map call_as w.calls) (map call_as v.calls) u (mark_of place)
-    (ap (λ (z : SeatLog). map call_as z.calls) is ∙ (map_snoc call_as v.calls (Enter u a) ∙ ap (λ (z : Entered). map call_as v.calls ++ call_as (Enter u z) ∷ []) (behind ∙ ap Behind same)))
+    (ap (λ (z : SeatLog). map call_as z.calls) is ∙ (map_push call_as v.calls (Enter u a) ∙ ap (λ (z : Entered). map call_as v.calls ++ call_as (Enter u z) ∷ []) (behind ∙ ap Behind same)))

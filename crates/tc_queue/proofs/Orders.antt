@@ -1,5 +1,6 @@
 -- What is so after a legal order of calls.
-use Rattle.std.proofs.Common.{◌≡◌, ◌≢◌, ℕ, zero, suc, ◌<◌, ◌==◌, Bool, true, false, cond, List, [], ◌∷◌, ◌++◌, All, sym, refl, ap, ◌∙◌, subst, ⊎_elim, arith, Option, Some, None, eqb-true, eq-eqb, ne_eqb}
+use Rattle.std.proofs.Common.{◌≡◌, ◌≢◌, ℕ, ◌<◌, ◌==◌, Bool, true, false, cond, List, [], ◌∷◌, ◌++◌, All, map, sym, refl, ap, ◌∙◌, subst, ⊎_elim, arith, Option, Some, None, eqb-true, eq-eqb, ne_eqb}
+use Rattle.std.proofs.lemmas.List.Elements.{All-tail}
 use Rattle.std.proofs.lemmas.Option.{none-some, same_Some}
 use mathlib.Core.Logic.{dite}
 use mathlib.Core.Option.{some, some-ne-none}
@@ -47,21 +48,19 @@ sound_after n (m ∷ before) legal = by_call m.call legal.0 (sound_after n befor
     by_call (Next u a) may is = is
     by_call (Leave u a) may is = record { tail = still_tail n q.tail u is.tail; links = is.links }
 
--- ---- the calls of a seat
+-- ---- the threads of turns
 
-all_rest : {A : Type 0} (P : A → Type 0) (x : A) (xs : List A) → All P (x ∷ xs) → All P xs
-all_rest P x xs all k d h = all (suc k) d (omega arith)
+abbrev pub threads_of : List Turn → List ℕ
+threads_of us = map (λ (u : Turn). u.thread) us
+
+-- ---- the calls of a seat
 
 -- a seat that is not there yet has made no call
 pub no_calls : (id : ℕ) (order : List Made) → All (λ (m : Made). m.seat < id) order → calls_of id order ≡ []
 no_calls id [] all = refl
 no_calls id (m ∷ before) all =
     let low : m.seat < id = all 0 m (omega arith) in
-    ap (λ (b : Bool). cond b (calls_of id before ++ m.call ∷ []) (calls_of id before)) (ne_eqb m.seat id (λ e. omega arith)) ∙ no_calls id before (all_rest (λ (m : Made). m.seat < id) m before all)
-
-pub all_more : {A : Type 0} (P : A → Type 0) (x : A) (xs : List A) → P x → All P xs → All P (x ∷ xs)
-all_more P x xs p all zero d h = p
-all_more P x xs p all (suc k) d h = all k d (omega arith)
+    ap (λ (b : Bool). cond b (calls_of id before ++ m.call ∷ []) (calls_of id before)) (ne_eqb m.seat id (λ e. omega arith)) ∙ no_calls id before (All-tail (λ (m : Made). m.seat < id) m before all)
 
 -- ---- what is linked was entered
 

@@ -10,13 +10,13 @@
 //! two queues never share a seat, and a seat's list has its own calls only.
 //!
 //! - `seats`: seats, and the lists of their calls. `maker`: makes the queues of an order, for a run
-//!   with an order of your own (`run_guest` of tc_main).
+//!   with an order of your own (`run_guest` of tc_main), and those of the order of entry.
 #![tactic(auto)]
 
 mod maker;
 mod seats;
 
-pub use maker::{Made, QueueMaker};
+pub use maker::{ByEntry, Made, QueueMaker};
 pub use seats::{NotedSeat, Seats};
 
 #[cfg(test)]

@@ -4,7 +4,7 @@ ghost use Rattle.std.specs.Prelude.{◌≡◌, ◌<◌, ◌≤◌, All, IfOk, le
 ghost use Rattle.tc_queue.specs.Lines.{IsSeatOf};
 
 use std::alloc::{AllocError, Global};
-use tc_queue::Waiters;
+use tc_queue::{Queue, Waiters};
 
 /// A queue that was just made, and its seats.
 pub type Made<Q> = Result<(Q, Vec<<Q as Waiters>::Seat>), AllocError>;
@@ -22,4 +22,16 @@ pub trait QueueMaker {
         ensures count { IfOk result (λ made. length made.1.items ≡ seats) }
         ensures seats { IfOk result (λ made. All
             (λ s. IsSeatOf (Self.Queue.queue made.0) (Self.Queue.seen s)) made.1.items) };
+}
+
+/// The order of entry, by the queues of tc_queue.
+#[derive(Clone, Copy, Debug)]
+pub struct ByEntry;
+
+impl QueueMaker for ByEntry {
+    type Queue = Queue;
+
+    fn make(&self, alloc: Global, threads: u32, seats: u32) -> Made<Queue> {
+        Queue::new(alloc, threads, seats)
+    }
 }

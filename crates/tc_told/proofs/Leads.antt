@@ -1,12 +1,9 @@
 -- Events that come one after the other, and what stays as they come.
-use Rattle.std.proofs.Common.{◌≡◌, ℕ, true, List, [], ◌∷◌, ◌++◌, refl, sym, subst}
-use Rattle.std.specs.Prelude.{is_some}
-use Rattle.std.proofs.lemmas.Bool.{and_parts}
+use Rattle.std.proofs.Common.{◌≡◌, true, List, [], ◌∷◌, ◌++◌, refl, sym, subst}
 use Rattle.tc_elf.specs.Shown.{Shown}
 use Rattle.tc_core.specs.declared.event.Event.{Event}
-use Rattle.tc_core.specs.declared.event.Event.TheVariants.{Commit}
 use Rattle.tc_core.specs.Core.{Core, Limits}
-use Rattle.tc_core.specs.Events.{is_enabled, has_thread}
+use Rattle.tc_core.specs.Events.{is_enabled}
 use Rattle.tc_core.specs.View.{IsSoundCore}
 use Rattle.tc_core.specs.Stories.{AreEnabled}
 use Rattle.tc_core.proofs.Erasure.{sound_after}

@@ -3,6 +3,7 @@ use Rattle.std.proofs.Common.{◌≡◌, ◌≢◌, ℕ, ◌+◌, ◌-◌, Bool,
 use Rattle.std.specs.Cmp.Derive.{both_true}
 use Rattle.std.specs.Prelude.{Option, Some, None, slice_get, if◌then◌else◌}
 use Rattle.std.specs.Option.{option_map}
+use Rattle.std.proofs.lemmas.Bool.{eqb-false, ne_eqb}
 use Rattle.std.proofs.lemmas.Bool.Decides.{eqb_tells}
 use Rattle.std.proofs.lemmas.List.{length-map}
 use Rattle.std.proofs.lemmas.List.Folds.{list_any-append}
@@ -130,11 +131,8 @@ in_more line t u = grind (arith, list_any-append (λ v. v == u) line (t ∷ []))
 
 once_more : (line : List ℕ) (t : ℕ) → Once line → is_in_line line t ≡ false → Once (line ++ t ∷ [])
 once_more [] t once out = (refl, tt)
-once_more (u ∷ us) t once out = (in_more us t u ∙ go (is_in_line us u) (u == t) (t == u) (is_in_line us t) once.0 out (swap u t), once_more us t once.1 (rest (u == t) (is_in_line us t) out))
+once_more (u ∷ us) t once out = (in_more us t u ∙ go (is_in_line us u) (u == t) (t == u) (is_in_line us t) once.0 out (λ e. ne_eqb t u (λ same. eqb-false u t e (sym same))), once_more us t once.1 (rest (u == t) (is_in_line us t) out))
   where
-    swap : (a b : ℕ) → (a == b) ≡ false → (b == a) ≡ false
-    swap a b e = elim (eqb_tells b a) [ inl h ↦ absurd (let s : (a == b) ≡ true = (elim (eqb_tells a b) [ inl g ↦ g.0 | inr g ↦ absurd (g.1 (sym h.1)) ]) in cc) | inr h ↦ h.0 ]
-
     rest : (a b : Bool) → (a || b) ≡ false → b ≡ false
     rest true b e = absurd (cc)
     rest false b e = e

@@ -1,7 +1,8 @@
 -- The passes of workers that have ended, joined into one, and the whole run.
-use Rattle.std.proofs.Common.{◌≡◌, ◌⊎◌, ℕ, suc, ◌-◌, Bool, true, false, ◌&&◌, List, [], ◌∷◌, ◌++◌, length, refl, sym, ap, ◌∙◌, subst, ⊎_elim, inl, inr, arith, None, get_or, map, Result, Ok, Err}
+use Rattle.std.proofs.Common.{◌≡◌, ℕ, suc, ◌-◌, Bool, true, false, ◌&&◌, List, [], ◌∷◌, ◌++◌, length, refl, sym, ap, ◌∙◌, subst, ⊎_elim, inl, inr, arith, None, get_or, map, Result, Ok, Err}
 use Rattle.std.specs.Prelude.{IfOk, MatchResult}
-use Rattle.std.proofs.lemmas.List.{map-append}
+use Rattle.std.proofs.lemmas.Bool.{and_cases, and_parts}
+use Rattle.std.proofs.lemmas.List.{map-append, nil_from_length}
 use Rattle.tc_hall.proofs.Listing.{at_append}
 use mathlib.Core.Option.{some}
 use lib.ListN.{get_elem?, length-map}
@@ -50,18 +51,6 @@ stop_joined : (v w : Knows) → HasStop w → HasStop (merged v w)
 stop_joined v w (made i h) = let at = at_append v.calls w.calls i Stop h in made at.0 at.1
 stop_joined v w (seen i h) = let at = at_append v.calls w.calls i (Stopped 1) h in seen at.0 at.1
 
-both_true : (a c : Bool) → (a && c) ≡ true → a ≡ true
-both_true true c e = refl
-both_true false c e = absurd (cc e)
-
-one_false : (a c : Bool) → (a && c) ≡ false → (a ≡ false) ⊎ (c ≡ false)
-one_false true c e = inr e
-one_false false c e = inl refl
-
-none_left : {A : Type 0} (xs : List A) → length xs ≡ 0 → xs ≡ []
-none_left [] e = refl
-none_left (x ∷ xs) e = absurd (omega (arith, e))
-
 module _ {Q S P : Type 0} where
   -- the last worker, and the others
   pub at_work_last : (b : BenchView) (ws vs : List (Worker Q S P)) (w : Worker Q S P) → AreAtWork b vs → vs ≡ ws ++ w ∷ [] → IsAtWork b None (view_of w) × AreAtWork b ws
@@ -76,7 +65,7 @@ module _ {Q S P : Type 0} where
 
   -- a single worker
   pub one_finished : (b : BenchView) (w : Worker Q S P) (ws vs : List (Worker Q S P)) (p : PassView) (a : Bool) → IsAtWork b None (view_of w) → IsFinished b.hall.terms w.desk.pass p a → HasWorked b (view_of w) p a → vs ≡ ws ++ w ∷ [] → length ws ≡ 0 → HaveFinished b (map view_of vs) p a
-  one_finished b w ws vs p a work end worked is none = subst (λ (l : List (Worker Q S P)). HaveFinished b (map view_of l) p a) (sym (is ∙ ap (λ (l : List (Worker Q S P)). l ++ w ∷ []) (none_left ws none))) record {
+  one_finished b w ws vs p a work end worked is none = subst (λ (l : List (Worker Q S P)). HaveFinished b (map view_of l) p a) (sym (is ∙ ap (λ (l : List (Worker Q S P)). l ++ w ∷ []) (nil_from_length ws none))) record {
     all = λ i v e. ⊎_elim
         (λ (h : get_elem? [] i ≡ some v). let low = (there [] i v v h).0 in absurd (omega arith))
         (λ (h : (i ≡ 0) × (view_of w ≡ v)). inl (sym (ap (λ (x : WorkerView). x.desk.pass.knows.worker) h.1) ∙ sym end.still.worker))
@@ -100,11 +89,11 @@ module _ {Q S P : Type 0} where
         end = record {
           own = same.0 ∙ (end.still.own.0 ∙ work.desk.seat.fits.own);
           free = subst IsFree (sym now) record { packages = end.free.packages; locks = end.free.locks };
-          done = λ e. subst (HasSeenAll (threads b.hall.terms)) (sym now) (seen_first (threads b.hall.terms) p.knows q.knows (end.done (both_true a c e)));
+          done = λ e. subst (HasSeenAll (threads b.hall.terms)) (sym now) (seen_first (threads b.hall.terms) p.knows q.knows (end.done (and_parts a c e).0));
           stopped = λ e. subst HasStop (sym now) (⊎_elim
               (λ (h : a ≡ false). stop_later p.knows (merged p.knows q.knows) q.knows.calls refl (end.stopped h))
               (λ (h : c ≡ false). stop_joined p.knows q.knows (others.end.stopped h))
-              (one_false a c e));
+              (and_cases a c e));
         };
       }
 

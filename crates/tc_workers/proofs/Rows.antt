@@ -112,7 +112,11 @@ rows_more items seen qs q rows seats more all own same dealt k d lt =
     (row_more qs q (map seen (items row)) (seen s) (subst (λ x. AreSeatsOf qs (map seen (items x))) r.1 (all w row r.0)) (subst (λ x. IsSeatOf q (seen x)) t.1 (own w s t.0))))
     k (get_or more k d) (at_itself more k d lt)
 
-pub queues_more : (n : ℕ) (qs more : List QueueView) (q : QueueView) → ((i : ℕ) (r : QueueView) → get_elem? qs i ≡ some r → r.threads ≡ n) → q.threads ≡ n → more ≡ qs ++ q ∷ [] → (i : ℕ) (r : QueueView) → get_elem? more i ≡ some r → r.threads ≡ n
+-- each queue is made for so many threads
+abbrev pub AreMadeFor : ℕ → List QueueView → Type 0
+AreMadeFor threads qs = (i : ℕ) (q : QueueView) → get_elem? qs i ≡ some q → q.threads ≡ threads
+
+pub queues_more : (n : ℕ) (qs more : List QueueView) (q : QueueView) → AreMadeFor n qs → q.threads ≡ n → more ≡ qs ++ q ∷ [] → AreMadeFor n more
 queues_more n qs more q all new is i r e = ⊎_elim
     (λ (h : get_elem? qs i ≡ some r). all i r h)
     (λ (h : (i ≡ length qs) × (q ≡ r)). subst (λ (x : QueueView). x.threads ≡ n) h.1 new)

@@ -28,7 +28,7 @@ use Rattle.tc_combiner.specs.Packages.{HasNoOther, IsGoodFor, Runs}
 use Rattle.tc_combiner.specs.Settling.{MayCommit, MaySettle}
 use Rattle.tc_combiner.specs.View.{DeskView}
 use Rattle.tc_combiner.specs.Walks.{Owns, packed}
-use Rattle.tc_combiner.proofs.Sealing.{none_some}
+use Rattle.tc_hall.proofs.Cases.{clash}
 use Rattle.tc_workers.specs.Worker.{HasOut, MayGoBack}
 use Rattle.tc_lemmas.proofs.Tests.{eq_self}
 use Rattle.std.proofs.lemmas.Option.{same_Some}
@@ -37,8 +37,8 @@ use Rattle.std.proofs.lemmas.Option.{same_Some}
 
 pub is_free : (v : Knows) → HasOut v [] → IsFree v
 is_free v e = record {
-  packages = λ t p has. none_some (get_or v.packages t None) p (ap (λ (o : Outs). o.context t) e) (found v.packages t (Some p) None has);
-  locks = λ i l has. none_some (get_or v.locks i None) l (ap (λ (o : Outs). o.lock i) e) (found v.locks i (Some l) None has);
+  packages = λ t p has. clash (get_or v.packages t None) p (ap (λ (o : Outs). o.context t) e) (found v.packages t (Some p) None has);
+  locks = λ i l has. clash (get_or v.locks i None) l (ap (λ (o : Outs). o.lock i) e) (found v.locks i (Some l) None has);
 }
 
 -- ---- room
@@ -98,7 +98,7 @@ same_bools false true to from = from refl
 same_bools false false to from = refl
 
 into_block : (held : ℕ → Bool) (next : Option ℕ) (i : ℕ) → (held i ≡ true) ⊎ (next ≡ Some i) → locks_of_block held next i ≡ true
-into_block held None i h = ⊎_elim (λ (e : held i ≡ true). e) (λ (e : None ≡ Some i). absurd (none_some None i refl e)) h
+into_block held None i h = ⊎_elim (λ (e : held i ≡ true). e) (λ (e : None ≡ Some i). absurd (clash None i refl e)) h
 into_block held (Some k) i h = either (i == k) (held i) (⊎_elim (λ (e : held i ≡ true). inr e) (λ (e : Some k ≡ Some i). inl (ap (λ (z : ℕ). i == z) (same_Some k i e) ∙ eq_self i)) h)
   where
     either : (a b : Bool) → (a ≡ true) ⊎ (b ≡ true) → (a || b) ≡ true
@@ -107,7 +107,7 @@ into_block held (Some k) i h = either (i == k) (held i) (⊎_elim (λ (e : held 
 
 module _ (image : Shown) (p : PackageView) (is : p.image ≡ image) (sound : IsSoundPackage p) (own : HasNoOther p) (runs : Runs p) (want : WantIsGranted image p) where
   granted_tells : (i : ℕ) (o : Option Grant) → MayTake p.image p.context o → granted_lock o ≡ Some i → (next_lock image (thread_in p.context) ≡ Some i) × (set_of p.context i ≡ true)
-  granted_tells i None may e = absurd (none_some None i refl e)
+  granted_tells i None may e = absurd (clash None i refl e)
   granted_tells i (Some g) may e = (let same : g.lock ≡ i = cc e in (ap (λ (x : Shown). next_lock x (thread_in p.context)) (sym is) ∙ (may.next ∙ e), subst (λ (j : ℕ). set_of p.context j ≡ true) same may.here))
 
   -- the locks in the package are those of its next block

@@ -1,5 +1,6 @@
 -- A step after which its worker goes on, or has seen that all is done, makes no stop; so a run that ends well has none.
-use Rattle.std.proofs.Common.{◌≡◌, ◌≢◌, ℕ, ◌+◌, Bool, true, false, List, [], ◌∷◌, ◌++◌, ◌&&◌, length, refl, sym, ap, ◌∙◌, subst, append-nil, append_assoc, Option, Some, None}
+use Rattle.std.proofs.Common.{◌≡◌, ◌≢◌, ℕ, ◌+◌, Bool, true, false, List, [], ◌∷◌, ◌++◌, length, refl, sym, ap, ◌∙◌, subst, append-nil, append_assoc, Option, Some, None}
+use Rattle.std.proofs.lemmas.Bool.{and_parts}
 use mathlib.Core.Option.{some}
 use lib.ListN.{get_elem?}
 use Rattle.atomic_table.proofs.Lists.{at_longer, at_last}
@@ -130,10 +131,6 @@ worked_so b x p true h e = subst (λ (q : PassView). AddsNoStop x.desk.pass.know
 
 -- ---- a crew
 
-own_true : (a c : Bool) → (a && c) ≡ true → (a ≡ true) × (c ≡ true)
-own_true true c e = (refl, e)
-own_true false c e = absurd (cc e)
-
 from_new : (v w : Knows) → v.calls ≡ [] → AddsNoStop v w → HaveNoStop w.calls
 from_new v w new a = subst HaveNoStop (sym (a.added ∙ ap (λ (l : List PassCall). l ++ a.calls) new)) a.none_stops
 
@@ -141,6 +138,6 @@ from_new v w new a = subst HaveNoStop (sym (a.added ∙ ap (λ (l : List PassCal
 pub none_stopped : (b : BenchView) (ws : List WorkerView) (v : Knows) (a : Bool) → HaveWorked b ws v a → a ≡ true → ((i : ℕ) (w : WorkerView) → get_elem? ws i ≡ some w → w.desk.pass.knows.calls ≡ []) → HaveNoStop v.calls
 none_stopped b ws v a (one w p d worked) all new = from_new w.desk.pass.knows p.knows (new 0 w refl) (worked_so b w p d worked all)
 none_stopped b ws v a (joined us u c w p d others worked) all new =
-    let both = own_true d c all in
+    let both = and_parts d c all in
     no_stops p.knows.calls u.calls (from_new w.desk.pass.knows p.knows (new (length us) w (at_last us w (length us) refl)) (worked_so b w p d worked both.0))
     (none_stopped b us u c others both.1 (λ i x e. new i x (at_longer us (w ∷ []) i x e)))

@@ -36,5 +36,5 @@ mod work;
 pub mod worker;
 
 pub use gate::{Gate, Open, Point};
-pub use run::{run_all, run_with};
+pub use run::{run_all, run_made, run_with};
 pub use tc_isa::options::Options;

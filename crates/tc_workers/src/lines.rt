@@ -1,13 +1,13 @@
 //! The queues of all locks, and their seats.
 
 ghost use Rattle.std.specs.Prelude.{◌≡◌, ◌≤◌, [], All, IfOk, OnOk, length, map};
-ghost use Rattle.tc_queue.specs.Lines.{seat_as};
 ghost use Rattle.tc_workers.specs.Crew.{AreLines};
 ghost use Rattle.tc_workers.specs.Rows.{AreDealtOut};
 
 use std::alloc::{AllocError, Global};
 use tc_elf::image::Image;
-use tc_queue::{Queue, Waiters};
+use tc_queue::Waiters;
+use tc_seats::QueueMaker;
 
 /// A queue for each lock, in order of number, and for each worker a row with a seat at each queue.
 #[derive(Drop)]
@@ -45,16 +45,22 @@ pub fn deal<S: Drop>(rows: &mut Vec<Vec<S>>, mut seats: Vec<S>) -> Result<(), Al
     Ok(())
 }
 
-/// The queues of the image's locks, with seats for so many workers.
-pub fn line_up(alloc: Global, image: &Image, workers: u32) -> Result<Lines<Queue>, AllocError>
+/// The maker's queues of the image's locks, with seats for so many workers.
+pub fn line_up<M: QueueMaker>(
+    alloc: Global,
+    image: &Image,
+    workers: u32,
+    maker: &M,
+) -> Result<Lines<M::Queue>, AllocError>
     requires { 1 ≤ workers }
-    ensures { IfOk result (λ lines. AreLines image.now workers lines.queues.items
-        (λ row. map seat_as row.items) lines.rows.items) }
+    ensures { IfOk result (λ lines. AreLines image.now workers
+        (map M.Queue.queue lines.queues.items)
+        (λ row. map M.Queue.seen row.items) lines.rows.items) }
 {
     let mut queues = Vec::with_capacity(alloc, image.guards() as usize)?;
     let mut rows = empty_rows(alloc, workers)?;
     for lock in 0..image.guards() {
-        let (queue, seats) = Queue::new(alloc, image.threads(), workers)?;
+        let (queue, seats) = maker.make(alloc, image.threads(), workers)?;
         deal(&mut rows, seats)?;
         queues.push_reserved(queue);
     }

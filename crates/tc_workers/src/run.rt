@@ -23,8 +23,9 @@ use tc_hall::closed::Closed;
 use tc_hall::hall::Hall;
 use tc_hall::pass::Pass;
 use tc_isa::options::Options;
-use tc_queue::{Queue, Waiters};
+use tc_queue::Waiters;
 use tc_ready::Ready;
+use tc_seats::{ByEntry, QueueMaker};
 
 /// The most offers that there is room for. A deque uses each of its places once, and writes all of
 /// them when it is made, before the run begins.
@@ -123,9 +124,32 @@ where
     finish(hall, finished)
 }
 
-/// Runs the threads of an image to their ends, by so many workers in parallel, with the queues of
-/// tc_queue. Each thread has the fuel, and the batch limit is that of the options. It may wait, as
-/// a desk may.
+/// Runs the threads of an image to their ends, by so many workers in parallel, with the maker's
+/// queues. Each thread has the fuel, and the batch limit is that of the options. It may wait, as a
+/// desk may.
+///
+/// Its only error is that memory ran out.
+pub fn run_made<R: Threads + Wait + Sync, M: QueueMaker, G: Gate>(
+    rt: &R,
+    alloc: Global,
+    image: &Image,
+    options: Options,
+    maker: &M,
+    gate: &G,
+) -> Result<Closed, AllocError>
+where
+    <M::Queue as Waiters>::Place: Send,
+    ensures whole { IfOk result (λ closed. IsWholeRun image.now options closed) }
+    ensures crew { IfOk result (λ closed. (rows : List (List SeatView))
+        × IsCrewsRun image.now options rows closed) }
+{
+    let Lines { queues, rows } = line_up(alloc, image, options.workers, maker)?;
+    run_with(rt, alloc, image, options, queues, rows, gate)
+}
+
+/// Runs the threads of an image to their ends, by so many workers in parallel, in the order of
+/// entry. Each thread has the fuel, and the batch limit is that of the options. It may wait, as a
+/// desk may.
 ///
 /// Its only error is that memory ran out.
 pub fn run_all<R: Threads + Wait + Sync, G: Gate>(
@@ -139,6 +163,5 @@ pub fn run_all<R: Threads + Wait + Sync, G: Gate>(
     ensures crew { IfOk result (λ closed. (rows : List (List SeatView))
         × IsCrewsRun image.now options rows closed) }
 {
-    let Lines { queues, rows } = line_up(alloc, image, options.workers)?;
-    run_with(rt, alloc, image, options, queues, rows, gate)
+    run_made(rt, alloc, image, options, &ByEntry, gate)
 }

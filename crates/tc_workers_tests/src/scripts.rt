@@ -33,6 +33,7 @@ use tc_journal::block::{Block, End};
 use tc_journal::reading::read;
 use tc_queue::Queue;
 use tc_ready::Ready;
+use tc_seats::ByEntry;
 use tc_workers::Open;
 use tc_workers::crew::hire;
 use tc_workers::find::try_claim;
@@ -493,7 +494,7 @@ pub(crate) fn play_to<R: Abort + Threads + Wait + Sync>(
     assert!(rt; 1 <= script.desks && script.desks <= MAX_WORKERS);
     assert!(rt; script.limit <= MAX_BATCH);
     let (hall, passes) = Hall::new(alloc, &image, 100, script.desks, script.limit)?;
-    let Lines { queues, rows } = line_up(alloc, &image, script.desks)?;
+    let Lines { queues, rows } = line_up(alloc, &image, script.desks, &ByEntry)?;
     let ready = Ready::crew(alloc, script.desks, image.threads(), 1)?;
     let bench = Bench {
         image: &image,

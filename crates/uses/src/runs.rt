@@ -11,7 +11,7 @@ use std::thread::Threads;
 use tc_elf::image::Image;
 use tc_isa::options::Options;
 use tc_main::gate::Open;
-use tc_main::made::ByEntry;
+use tc_main::ByEntry;
 use tc_main::own::run_values;
 use tc_main::replay::profile_of;
 use tc_profile::LockProfile;

@@ -10,7 +10,7 @@ use Rattle.tc_main.specs.Wrong.{IsWrong, IsWrongFile, IsWrongInput}
 use Rattle.tc_main.specs.declared.words.Command.{Command}
 use Rattle.tc_main.specs.declared.words.Command.TheVariants.{Run, Replay, Profile}
 use Rattle.tc_main.specs.declared.wrong.Wrong.{Wrong}
-use Rattle.tc_main.proofs.Guests.{guest_image}
+use Rattle.tc_main.proofs.Guests.{guest_few}
 use Rattle.tc_main.proofs.Replaying.{asked_wrong, run_wrong}
 use Rattle.tc_main.proofs.answer.write_asked.Goals as goal
 
@@ -51,7 +51,7 @@ returns-in_ok-report-in-Replay-clause-wrote g c =
       is = c.in_ok-replay-in-Replay.ensures.history;
       run = c.in_ok-replay-in-Replay.ensures.replayed.run;
     } in
-    let few = (guest_image (take c.in-Replay.size c.args.bytes.items) r.image run.is.guest).few_guards in
+    let few = (guest_few (take c.in-Replay.size c.args.bytes.items) r.image run.is.guest).1 in
     let text : IsTextOf (Replay c.in-Replay.size c.in-Replay.options) c.args.bytes.items report = record {
       run = run;
       journals = λ k lt. has_journal r.image c.in-Replay.options.fuel r.history.items (end_after r.image c.in-Replay.options.fuel r.history.items) k few run.run.tells;

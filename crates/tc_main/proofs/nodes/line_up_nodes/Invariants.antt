@@ -1,8 +1,7 @@
 use Rattle.std.proofs.Common.{◌≡◌, ◌≤◌, All, length, map, vec_capacity}
 use Rattle.tc_main.specs.Orders.{AreOnNodes}
 use Rattle.tc_nodes.specs.Lines.{queue_as, seat_as}
-use Rattle.tc_workers.proofs.Rows.{AreRows}
-use Rattle.tc_main.proofs.NodeRows.{AreMadeFor}
+use Rattle.tc_workers.proofs.Rows.{AreMadeFor, AreRows}
 use Rattle.tc_main.proofs.nodes.line_up_nodes.Given as goal
 
 abbrev pub invariant-loop-lock : goal.invariant-loop-lock

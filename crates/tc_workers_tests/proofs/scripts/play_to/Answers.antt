@@ -1,5 +1,4 @@
 use Rattle.std.proofs.Common.{◌≡◌, ◌∙◌, length, map, sym, ap}
-use Rattle.std.proofs.lemmas.List.{map-id}
 use lib.ListN.{length-map}
 use Rattle.tc_elf.specs.Shown.{Shown}
 use Rattle.tc_queue.specs.Lines.{seat_as}
@@ -11,7 +10,7 @@ use Rattle.tc_workers_tests.proofs.scripts.play_to.Goals as goal
 pub hire-requires-after_bounds : goal.hire-requires-after_bounds
 hire-requires-after_bounds g c κs =
     let hall = c.in_ok-hall.ensures.hall in
-    let same : map (λ (q : QueueView). q) c.as_slice.result.now ≡ c.in_ok-queues.field-0.queues.items = map-id c.as_slice.result.now ∙ c.as_slice.ensures.value in
+    let same : map (λ (q : QueueView). q) c.as_slice.result.now ≡ map (λ (q : QueueView). q) c.in_ok-queues.field-0.queues.items = ap (map (λ (q : QueueView). q)) c.as_slice.ensures.value in
     let lines = same_lines _ _ _ _ _ _ c.in_ok-queues.ensures same in
     for_hire _ (λ row. map seat_as row.items) _ _ _ c.in_ok-hall.passes.items c.in_ok-queues.field-0.rows.items c.in_ok-ready.ready.items (record { hall = hall.image; queues = lines.queues }) c.in_ok-hall.ensures.passes lines.count lines.rows c.in_ok-ready.ensures
     (c.threads.ensures.value ∙ sym (ap (λ (x : Shown). length x.entries) hall.image))

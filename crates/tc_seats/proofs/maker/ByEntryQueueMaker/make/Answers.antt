@@ -1,7 +1,7 @@
 use Rattle.std.proofs.Common.{ap}
 use Rattle.std.proofs.lemmas.Result.{IfOk-weaker}
 use Rattle.tc_queue.specs.declared.board.SeatLog.{SeatLog}
-use Rattle.tc_main.proofs.made.ByEntryQueueMaker.make.Goals as goal
+use Rattle.tc_seats.proofs.maker.ByEntryQueueMaker.make.Goals as goal
 
 pub returns-clause-seats : goal.returns-clause-seats
 returns-clause-seats c =
