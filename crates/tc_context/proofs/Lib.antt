@@ -6,3 +6,4 @@ pub mod Blocked
 pub mod Staging
 pub mod Ended
 pub mod Running
+pub mod Rooms

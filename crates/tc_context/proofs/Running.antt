@@ -419,10 +419,10 @@ seal_all p b stamp worker locks sound pending places changed =
     each k (Some l) e = ap Some (one k l (sound.stored k l e) (has b.held k) refl)
 
 -- with its locks and its log sealed, the package is sealed
-pub seal_is : (p : PackageView) (l : IsLast p) (stamp worker held len : ℕ) (log : List Block) (locks : List (Option LockView)) → IsSoundPackage p → held ≡ l.block.held → len ≡ length p.log → length locks ≡ 32
-    → Changed (sealed_in (has held) stamp worker) p.context.locks locks → log ≡ set p.log (len - 1) (sealed_block stamp worker l.block)
-    → record p { context = record { thread = p.context.thread; guest = p.context.guest; locks = locks }; pending = None; log = log } ≡ with_seal stamp worker p
-seal_is p l stamp worker held len log locks sound is count places changed logged =
+pub seal_is : (p : PackageView) (l : IsLast p) (stamp worker held len room : ℕ) (log : List Block) (locks : List (Option LockView)) → IsSoundPackage p → held ≡ l.block.held → len ≡ length p.log → length locks ≡ 32
+    → Changed (sealed_in (has held) stamp worker) p.context.locks locks → log ≡ set p.log (len - 1) (sealed_block stamp worker l.block) → room ≡ p.log_room
+    → record p { context = record { thread = p.context.thread; guest = p.context.guest; locks = locks }; pending = None; log = log; log_room = room } ≡ with_seal stamp worker p
+seal_is p l stamp worker held len room log locks sound is count places changed logged roomy =
     let same = seal_all p l.block stamp worker locks sound l.pending places (subst (λ n. Changed (sealed_in (has n) stamp worker) p.context.locks locks) is changed) in
     let sealed = logged ∙ ap (λ n. set p.log (n - 1) (sealed_block stamp worker l.block)) count ∙ ap (sealed_log stamp worker p.log) (sym l.pending) in
-    λ i. record p { context = record { thread = p.context.thread; guest = p.context.guest; locks = same i }; pending = None; log = sealed i }
+    λ i. record p { context = record { thread = p.context.thread; guest = p.context.guest; locks = same i }; pending = None; log = sealed i; log_room = roomy i }

@@ -1,7 +1,8 @@
 -- What a package keeps, through each of its calls.
 use Rattle.std.proofs.Common.{◌≡◌, ℕ, ◌<◌, ◌≤◌, Bool, true, false, not, ◌||◌, ◌&&◌, ◌==◌, List, map, filter, length, refl, sym, ap, subst, ◌∙◌, arith, inl, inr, Option, Some, None, IfSome, is_some, slice_index_or, set, if◌then◌else◌, length-set, get_or-set_same, get_or-set_other}
-use Rattle.tc_context.proofs.Vocabulary.{option_map, has, MAX_TURNS, Shown, is_section, last_of, may_go_on, ends_section, passes_to, passes_on, Block, Thread, is_running, next_lock, LockView, IsAtRest, kept, block_in, blocks_of, with_journal, with_room, Context, lock_in, AreOf, Changed, IsPlaced, SameLocks, roomy_in, thread_in, set_of, PackageView, granted_lock}
+use Rattle.tc_context.proofs.Vocabulary.{option_map, has, Shown, is_section, last_of, may_go_on, ends_section, passes_to, passes_on, Block, Thread, is_running, next_lock, LockView, IsAtRest, kept, block_in, blocks_of, Context, lock_in, AreOf, Changed, IsPlaced, SameLocks, thread_in, set_of, PackageView, granted_lock}
 use Rattle.tc_context.proofs.Vocabulary.{want_of, number_in, waiting_in, IsNumber, IsFresh, EndsSection, IsIdle, IsAt, IsStored, IsLeft, EndsWith, IsGranted, MayPassTo, MayTake, IsSoundPackage, IsWanted, LastIsSealed, IsWaiting, IsRoomier, with_grant, without_lock, guest_in, view_of, KeptPackage}
+use Rattle.std.specs.Prelude.{vec_len, vec_capacity}
 use Rattle.std.specs.List.{range_with_len}
 use Rattle.tc_isa.specs.Sets.{locks_of}
 use Rattle.tc_isa.specs.declared.limits.TheConstants.{MAX_HELD}
@@ -18,7 +19,7 @@ use Rattle.tc_context.specs.declared.package.Grant.{Grant}
 use Rattle.tc_mutex_spec.proofs.Replaying.{running_is}
 pub use Rattle.tc_mutex_spec.proofs.OptionLaws.{map_some, some_map, some_of, option_map-twice, then_some, else_some}
 use Rattle.tc_context.specs.declared.package.Contents.{Contents}
-use Rattle.tc_context.proofs.LockList.{when_field, with_locks, put_place}
+use Rattle.tc_context.proofs.LockList.{with_locks, put_place}
 use Rattle.tc_lemmas.proofs.Tests.{eq_self}
 
 -- the contents of a box are those that the package shows
@@ -39,16 +40,16 @@ bare a none = ap (λ first. record (view_of a) { context = record { thread = a.c
 -- contents with room for a block, in which the thread has its own memory
 pub record Ready (a : Contents) (v : PackageView) : Type 0 where
   pub none : a.first ≡ None
-  pub room : 0 < a.log_room
+  pub room : vec_len a.log < vec_capacity a.log
   pub is : bare_view a ≡ v
   pub sound : IsSoundPackage (bare_view a)
   pub next : a.next ≡ next_lock a.of.value (thread_in a.context)
 
 pub ready : (a : Contents) (v : PackageView) → Shows a v → 0 < v.log_room → Ready a v
 ready a v s reserved =
-    let room : 0 < a.log_room = subst (λ (v : PackageView). 0 < v.log_room) (sym s.is) reserved in
-    let log = s.kept.log in
-    let none = s.kept.own (omega (arith, room, log)) in
+    let some = subst (λ (v : PackageView). 0 < v.log_room) (sym s.is) reserved in
+    let room : vec_len a.log < vec_capacity a.log = omega (arith, some) in
+    let none = s.kept.own room in
     record {
       none = none;
       room = room;
@@ -58,10 +59,12 @@ ready a v s reserved =
     }
 
 -- so is what a block makes of them, as it is seen
-pub ran_seen : (P : PackageView → Type 0) (a : Contents) (new : Context) (log : List Block) (room slept : ℕ) → a.first ≡ None
+pub ran_seen : (P : PackageView → Type 0) (a : Contents) (new : Context) (log : List Block) (room now slept : ℕ) → a.first ≡ None → now ≡ room
     → P (record (bare_view a) { context = new; granted = None; pending = last_of log; log = log; log_room = room; slept = slept })
-    → P (record (bare_view a) { context = record { thread = new.thread; guest = guest_in a.first new.guest; locks = new.locks }; granted = None; pending = last_of log; log = log; log_room = room; slept = slept })
-ran_seen P a new log room slept none = subst (λ first. P (record (bare_view a) { context = record { thread = new.thread; guest = guest_in first new.guest; locks = new.locks }; granted = None; pending = last_of log; log = log; log_room = room; slept = slept })) (sym none)
+    → P (record (bare_view a) { context = record { thread = new.thread; guest = guest_in a.first new.guest; locks = new.locks }; granted = None; pending = last_of log; log = log; log_room = now; slept = slept })
+ran_seen P a new log room now slept none same ran =
+    subst (λ n. P (record (bare_view a) { context = record { thread = new.thread; guest = guest_in a.first new.guest; locks = new.locks }; granted = None; pending = last_of log; log = log; log_room = n; slept = slept })) (sym same)
+    (subst (λ first. P (record (bare_view a) { context = record { thread = new.thread; guest = guest_in first new.guest; locks = new.locks }; granted = None; pending = last_of log; log = log; log_room = room; slept = slept })) (sym none) ran)
 
 -- a lock rests by its sealed entries alone
 pub rests_as : (k : ℕ) (x l : LockView) → l.journal.sealed ≡ x.journal.sealed → EndsSection k x → EndsSection k l
@@ -183,9 +186,6 @@ left_as image p locks (Some b) left = record { thread = left.thread; runs = left
 
 abbrev pub with_rooms : PackageView → List (Option LockView) → ℕ → ℕ → PackageView
 with_rooms p locks room turns = record p { context = with_locks p.context locks; log_room = room; turns = turns }
-
-pub same_locks : (held : ℕ → Bool) (old new : List (Option LockView)) → Changed (roomy_in held 1 MAX_TURNS) old new → SameLocks old new
-same_locks held old new changed k = ap (option_map kept) (changed k) ∙ option_map-twice (roomy_in held 1 MAX_TURNS k) kept kept (lock_in old k) (λ l. when_field kept (held k) (with_journal (with_room 1 MAX_TURNS)) l refl)
 
 pub changed_set : (f : ℕ → LockView → LockView) (old new : List (Option LockView)) → Changed f old new → (k : ℕ) → is_some (lock_in new k) ≡ is_some (lock_in old k)
 changed_set f old new changed k = ap is_some (changed k) ∙ some_map (f k) (lock_in old k)

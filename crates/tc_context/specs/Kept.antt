@@ -11,6 +11,7 @@ use Rattle.tc_turn.specs.Memory.{Part}
 use Rattle.tc_turn.specs.Turn.{Guest, next_lock}
 use Rattle.tc_context.specs.declared.context.Context.{Context}
 use Rattle.tc_context.specs.declared.package.Contents.{Contents}
+use Rattle.tc_context.specs.Locks.{EachLock, Gives}
 use Rattle.tc_context.specs.Whole.{thread_in, set_of, AreEnded}
 use Rattle.tc_context.specs.View.{PackageView, IsSoundPackage}
 
@@ -37,7 +38,7 @@ view_of a = record {
   granted = a.granted;
   pending = pending_in a.pending a.log.items;
   log = a.log.items;
-  log_room = a.log_room;
+  log_room = vec_capacity a.log - vec_len a.log;
   numbers = a.numbers;
   turns = a.turns;
   slept = a.slept;
@@ -49,7 +50,8 @@ pub record KeptPackage (a : Contents) : Type 0 where
   pub next : a.next ≡ next_lock a.of.value (thread_in (context_in a))
   pub present : (k : ℕ) → set_of a.context k ≡ has a.present k
   pub pending : is_some (pending_in a.pending a.log.items) ≡ a.pending
-  pub log : vec_len a.log + a.log_room ≤ vec_capacity a.log
+  pub log : a.room.entries ≤ vec_capacity a.log - vec_len a.log
+  pub room : EachLock (λ k l. Gives a.room l) a.context.locks
   pub ended : AreEnded a.context
   pub edge : a.edge.packed ≡ true → a.edge.regs ≡ a.context.guest.regs
   pub own : vec_len a.log < vec_capacity a.log → a.first ≡ None

@@ -17,7 +17,8 @@ use Rattle.tc_journal.specs.declared.block.Block.{Block}
 use Rattle.tc_turn.specs.Turn.{Mutex}
 use Rattle.tc_turn.specs.Replay.{takes_word}
 use Rattle.tc_mutex_spec.specs.Slow.{no_mutex}
-use Rattle.tc_segment.specs.View.{LockView, Journal, EndedAt, ClosesWith, MayFollow, MayPass, kept, lock_of, guard_of, with_store, with_section, with_break, with_end, with_journal, opened_at, noted, closed_with, sealed_as, with_room}
+use Rattle.tc_segment.specs.View.{LockView, Journal, EndedAt, ClosesWith, MayFollow, MayPass, kept, lock_of, guard_of, with_store, with_section, with_break, with_end, with_journal, opened_at, noted, closed_with, sealed_as}
+use Rattle.tc_context.specs.declared.room.Room.{Room}
 
 abbrev pub slot_of : Option (Option LockView) → Option LockView
 slot_of None = None
@@ -57,6 +58,16 @@ pub record IsReady (j : Journal) : Type 0 where
   pub closed : j.closed ≡ None
   pub entry : 0 < j.entry_room
   pub words : MAX_TURNS ≤ j.word_room
+
+-- the lock has at least this room
+pub record Gives (room : Room) (l : LockView) : Type 0 where
+  pub entries : room.entries ≤ l.journal.entry_room
+  pub words : room.words ≤ l.journal.word_room
+
+-- there is no more room than in the other
+pub record IsWithin (room most : Room) : Type 0 where
+  pub entries : room.entries ≤ most.entries
+  pub words : room.words ≤ most.words
 
 -- and its last entry ended with these registers
 pub record MayGoOn (regs : Registers) (l : LockView) : Type 0 where
@@ -168,9 +179,6 @@ closed_in held block finish k l = when_in (held k) (λ m. with_end block.end (wi
 
 abbrev pub sealed_in : (ℕ → Bool) → ℕ → ℕ → ℕ → LockView → LockView
 sealed_in held stamp worker k l = when_in (held k) (with_journal (sealed_as stamp worker)) l
-
-abbrev pub roomy_in : (ℕ → Bool) → ℕ → ℕ → ℕ → LockView → LockView
-roomy_in held entries words k l = when_in (held k) (with_journal (with_room entries words)) l
 
 -- each entry that isn't sealed yet is
 abbrev pub sealed_all : ℕ → ℕ → List (Option LockView) → List (Option LockView)

@@ -1,6 +1,6 @@
 //! The lock states that a package has.
 
-ghost use Rattle.std.specs.Prelude.{◌≡◌, ℕ, ◌<◌, ◌≤◌, [], ◌∷◌, true, false, is_some, length, set, Some, None, IfOk, IfSome, OnOk, OnErr};
+ghost use Rattle.std.specs.Prelude.{◌≡◌, ℕ, ◌<◌, ◌≤◌, ◌==◌, [], ◌∷◌, true, false, is_some, length, set, Some, None, IfOk, IfSome, OnOk};
 ghost use Rattle.std.specs.Option.{option_map};
 ghost use Rattle.tc_isa.specs.Sets.{has};
 ghost use Rattle.tc_isa.specs.declared.limits.TheConstants.{MAX_TURNS};
@@ -8,12 +8,13 @@ ghost use Rattle.tc_isa.specs.declared.held.TheConstants.Held.{PLACES};
 ghost use Rattle.tc_elf.specs.Places.{in_guard};
 ghost use Rattle.tc_exec.specs.Told.{IsWidth};
 ghost use Rattle.tc_turn.specs.Replay.{takes_word as takes};
-ghost use Rattle.tc_segment.specs.View.{closed_with, guard_of, lock_of, noted, opened_at, sealed_as, with_break, with_end, with_journal, with_room, with_section, with_store};
+ghost use Rattle.tc_segment.specs.View.{closed_with, guard_of, lock_of, noted, opened_at, sealed_as, with_break, with_end, with_journal, with_section, with_store, HasRoomFor, LockView};
 ghost use Rattle.tc_mutex_spec.specs.Blocks.{locks_of_block};
 ghost use Rattle.tc_context.specs.Locks.{lock_in, turned, put_in, TurnReady, PutReady, TurnFits, StoreFits};
 ghost use Rattle.tc_context.specs.Locks.{Changed, HoldsAt, EachHeld, EachLock, IsReady, MayGoOn, CanClose, CanSeal, IsPlaced, SameLocks, at_place, when_in};
-ghost use Rattle.tc_context.specs.Locks.{broken_in, opened_in, noted_in, closed_in, sealed_in, roomy_in};
+ghost use Rattle.tc_context.specs.Locks.{broken_in, opened_in, noted_in, closed_in, sealed_in, Gives, IsWithin};
 
+use crate::room::Room;
 use std::alloc::{AllocError, Global};
 use std::marker::Model;
 use tc_elf::image::{Image, Region};
@@ -293,8 +294,9 @@ impl LockSet {
     fn reserve_one(&mut self, lock: u32) -> Result<(), AllocError>
         requires { lock < PLACES }
         ensures ok { OnOk result
-            (Changed (at_place lock (with_journal (with_room 1 MAX_TURNS))) self.old self.new) }
-        ensures err { OnErr result (Changed (λ k l. l) self.old self.new) }
+            ((l : LockView) → lock_in self.new lock ≡ Some l → HasRoomFor MAX_TURNS l.journal) }
+        ensures same { SameLocks self.old self.new }
+        ensures others { (k : ℕ) → (k == lock) ≡ false → lock_in self.new k ≡ lock_in self.old k }
     {
         match &mut self.places[lock as usize] {
             Some(state) => state.reserve(MAX_TURNS as usize),
@@ -302,22 +304,12 @@ impl LockSet {
         }
     }
 
-    /// Makes room for one entry and its words in each of these locks.
+    /// Makes room for many entries and for the words of a block in each of these locks. Nothing but
+    /// rooms changes.
     pub fn reserve(&mut self, held: Held) -> Result<(), AllocError>
-        ensures ok { OnOk result (Changed (roomy_in (has held) 1 MAX_TURNS) self.old self.new) }
-        ensures err { OnErr result (SameLocks self.old self.new) }
-    {
-        if is_empty(held) {
-            return Ok(());
-        }
-        self.reserve_each(held)
-    }
-
-    /// Blocks without locks don't pay for a call of it.
-    #[inline(never)]
-    fn reserve_each(&mut self, held: Held) -> Result<(), AllocError>
-        ensures ok { OnOk result (Changed (roomy_in (has held) 1 MAX_TURNS) self.old self.new) }
-        ensures err { OnErr result (SameLocks self.old self.new) }
+        ensures ok { OnOk result
+            (EachHeld (has held) (λ l. HasRoomFor MAX_TURNS l.journal) self.new) }
+        ensures same { SameLocks self.old self.new }
     {
         let mut left = held;
         while let Some(lock) = left.least() {
@@ -325,6 +317,31 @@ impl LockSet {
             left = left.less(lock);
         }
         Ok(())
+    }
+
+    /// So much of `most` as is in the lock of that number too, where it is there.
+    fn room_at(&self, lock: u32, most: Room) -> Room
+        ensures lock { (l : LockView) → lock_in self.now lock ≡ Some l → Gives result l }
+        ensures most { IsWithin result most }
+    {
+        match self.find(lock) {
+            Some(state) => most.with(state),
+            None => most,
+        }
+    }
+
+    /// So much of `most` as is in each of these locks too.
+    pub(crate) fn room(&self, held: Held, most: Room) -> Room
+        ensures locks { EachHeld (has held) (Gives result) self.now }
+        ensures most { IsWithin result most }
+    {
+        let mut room = most;
+        let mut left = held;
+        while let Some(lock) = left.least() {
+            room = self.room_at(lock, room);
+            left = left.less(lock);
+        }
+        room
     }
 
     /// Each lock after a turn that did this, of a thread that held these locks before it.

@@ -1,6 +1,6 @@
 //! Packages.
 
-ghost use Rattle.std.specs.Prelude.{◌≡◌, ◌<◌, ◌≤◌, ◌+◌, min, true, false, is_some, length, vec_len, vec_capacity, Some, None, IfOk, OnOk, OnErr};
+ghost use Rattle.std.specs.Prelude.{◌≡◌, ◌<◌, ◌≤◌, ◌+◌, min, true, false, is_some, length, vec_len, vec_capacity, Some, None, IfOk, OnOk};
 ghost use Rattle.std.specs.Arc.{arc_value};
 ghost use Rattle.tc_isa.specs.Sets.{has};
 ghost use Rattle.tc_isa.specs.declared.limits.TheConstants.{MAX_FUEL};
@@ -19,6 +19,7 @@ ghost use Rattle.tc_context.specs.View.{IsFresh, IsSoundPackage, WantIsLawful, I
 
 use crate::context::{Context, Edge};
 use crate::locks::LockSet;
+use crate::room::Room;
 use std::alloc::{AllocError, Global};
 use std::marker::Model;
 use std::snapshot::Snapshot;
@@ -67,7 +68,8 @@ struct Contents {
     // Whether the last block of the log isn't sealed.
     pending: bool,
     log: Vec<Block>,
-    log_room: usize,
+    // What the log and each lock have at least.
+    room: Room,
     numbers: [u64; Held::PLACES as usize],
     turns: u64,
     slept: u32,
@@ -100,7 +102,7 @@ impl Package {
         ensures want { WantIsLawful self.now }
         ensures last { LastIsSealed self.now }
     {
-        let _ = &self.contents.log_room;
+        let _ = &self.contents.log;
     }
 
     /// The number of the thread.
@@ -267,7 +269,7 @@ impl Package {
             granted: None,
             pending: false,
             log: Vec::new(alloc),
-            log_room: 0,
+            room: Room::none(),
             numbers: [0; Held::PLACES as usize],
             turns: 0,
             slept: 0,
@@ -297,17 +299,31 @@ impl Package {
         }
     }
 
-    /// Makes room for one block in the log, and in each lock of the package for one entry and
-    /// as many foreign words as a block has steps. The first call gives the thread its own
-    /// copy of its initial memory. Nothing else changes; after a refusal only capacities
-    /// have.
+    /// Makes room for a block in the log, and in each lock of the package for an entry and as many
+    /// foreign words as a block has steps. It allocates for many blocks at once, so most calls find
+    /// enough. The first call gives the thread its own copy of its initial memory. Nothing else
+    /// changes; after a refusal only capacities have.
+    // Inlined, since nearly every call is the comparison of two numbers.
+    #[inline(always)]
     pub fn reserve(&mut self) -> Result<(), AllocError>
         ensures ok { OnOk result (IsReserved self.new) }
         ensures same { IsRoomier self.old self.new }
-        ensures room { OnOk result (self.new.log_room ≡ 1) }
-        ensures refused { OnErr result (self.new.log_room ≡ self.old.log_room) }
+    {
+        if self.contents.room.is_enough() {
+            return Ok(());
+        }
+        self.reserve_more()
+    }
+
+    /// Few blocks pay for a call of it.
+    #[cold]
+    #[inline(never)]
+    fn reserve_more(&mut self) -> Result<(), AllocError>
+        ensures ok { OnOk result (IsReserved self.new) }
+        ensures same { IsRoomier self.old self.new }
     {
         let contents = &mut *self.contents;
+        contents.room = Room::none();
         make_room(
             &mut contents.log,
             &mut contents.first,
@@ -316,7 +332,11 @@ impl Package {
         let made = contents.context.locks.reserve(contents.present);
         contents.context.locks.bound();
         made?;
-        contents.log_room = 1;
+        let blocks = contents.log.capacity() - contents.log.len();
+        contents.room = contents
+            .context
+            .locks
+            .room(contents.present, Room::of(blocks));
         Ok(())
     }
 
@@ -343,7 +363,7 @@ impl Package {
             &mut contents.log,
         );
         contents.context.locks.bound();
-        contents.log_room -= 1;
+        contents.room = contents.room.behind(ran.block.turns);
         contents.granted = None;
         contents.pending = true;
         contents.slept = ran.slept;
@@ -399,6 +419,7 @@ impl Package {
             kind,
         };
         contents.numbers[granted.lock as usize] = number;
+        contents.room = contents.room.with(&lock);
         contents.context.locks.put_in(lock);
         contents.present = contents.present.plus(granted.lock);
         contents.granted = Some(granted);

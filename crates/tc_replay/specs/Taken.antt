@@ -1,12 +1,12 @@
 -- The progress of a checker: it has taken the blocks of a history.
-use Rattle.std.specs.Prelude.{◌≡◌, ◌≢◌, ℕ, ◌<◌, ◌≤◌, ◌⊎◌, ◌==◌, if◌then◌else◌, true, false, List, [], ◌∷◌, ◌++◌, map, set, length, Option, Some, None}
+use Rattle.std.specs.Prelude.{◌≡◌, ◌≢◌, ℕ, ◌<◌, ◌⊎◌, ◌==◌, if◌then◌else◌, true, false, List, [], ◌∷◌, ◌++◌, map, set, length, Option, Some, None}
 use Rattle.tc_isa.specs.Sets.{has}
 use Rattle.tc_isa.specs.declared.limits.TheConstants.{MAX_TURNS}
 use Rattle.tc_isa.specs.declared.options.Options.{Options as Terms}
 use Rattle.tc_elf.specs.Shown.{Shown}
 use Rattle.tc_journal.specs.declared.block.Block.{Block}
 use Rattle.tc_mutex_spec.specs.Blocks.{IsComplete, end_after}
-use Rattle.tc_segment.specs.View.{LockView, IsAtRest, fresh_state, kept, strict_as, with_journal}
+use Rattle.tc_segment.specs.View.{HasRoomFor, LockView, IsAtRest, fresh_state, kept, strict_as, with_journal}
 use Rattle.tc_context.specs.Locks.{lock_in, IsPlaced, SameLocks}
 use Rattle.tc_context.specs.Whole.{set_of, block_locks}
 use Rattle.tc_context.specs.View.{PackageView, IsFresh, IsRoomier, IsWaiting, bare, held_in, locks_in, with_grant, with_turns}
@@ -144,9 +144,8 @@ pub record IsNext (image : Shown) (terms : Terms) (before : Before) (home : List
   pub stamp : b.stamp ≡ length before.history
 
 -- there is capacity in the lock for a block's entry
-pub record HasRoom (l : LockView) : Type 0 where
-  pub entry : 0 < l.journal.entry_room
-  pub words : MAX_TURNS ≤ l.journal.word_room
+abbrev pub HasRoom : LockView → Type 0
+HasRoom l = HasRoomFor MAX_TURNS l.journal
 
 -- what a package requires of a lock that is granted to it
 pub record MayGrant (p : PackageView) (l : LockView) : Type 0 where

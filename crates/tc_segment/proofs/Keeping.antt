@@ -205,9 +205,9 @@ sound_closed block finish l o sound is closes =
 
 -- ---- a new lock state
 
-pub fresh_view : (of image : Shown) (number limit : ℕ) (strict : Bool) (bytes words : List ℕ) (edges : List ℕ) (records : List Record) → of ≡ image → bytes ≡ (mutex_at_start image number).bytes → records ≡ []
-    → record { number = number; bytes = bytes; broken = false; sections = 0; journal = shown_journal (grounds of number limit strict edges words) (map (shown edges words) records) 0 None 0 0 } ≡ with_journal (strict_as strict) (fresh_state image number limit)
-fresh_view of image number limit strict bytes words edges records o b r = λ i. record { number = number; bytes = b i; broken = false; sections = 0; journal = shown_journal (grounds (o i) number limit strict edges words) (map (shown edges words) (r i)) 0 None 0 0 }
+pub fresh_view : (of image : Shown) (number limit : ℕ) (strict : Bool) (bytes words : List ℕ) (edges : List ℕ) (records : List Record) (room : ℕ) → of ≡ image → bytes ≡ (mutex_at_start image number).bytes → records ≡ [] → room ≡ 0
+    → record { number = number; bytes = bytes; broken = false; sections = 0; journal = shown_journal (grounds of number limit strict edges words) (map (shown edges words) records) 0 None 0 room } ≡ with_journal (strict_as strict) (fresh_state image number limit)
+fresh_view of image number limit strict bytes words edges records room o b r none = λ i. record { number = number; bytes = b i; broken = false; sections = 0; journal = shown_journal (grounds (o i) number limit strict edges words) (map (shown edges words) (r i)) 0 None 0 (none i) }
 
 pub sound_fresh : (image : Shown) (number limit : ℕ) (strict : Bool) → number < length image.guards → number < 32 → IsGuard image (guard_at image number) → limit ≤ MAX_BATCH → IsSoundLock (with_journal (strict_as strict) (fresh_state image number limit))
 sound_fresh image number limit strict known small guard most = record {

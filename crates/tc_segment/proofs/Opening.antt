@@ -4,6 +4,7 @@ use Rattle.tc_segment.proofs.Vocabulary.{Contents, Edges, EndedAt, Entry, IsPlac
 use Rattle.std.specs.Prelude.{Some, None, option_map, slice_get}
 use Rattle.std.proofs.lemmas.List.{length-map}
 use Rattle.std.proofs.lemmas.Option.{slice_get-map}
+use Rattle.tc_segment.specs.Edges.{room_in}
 use Rattle.tc_segment.specs.View.{finish_in, last_finish}
 use Rattle.tc_segment.proofs.Packing.{stands_is, place_of-stands}
 use Rattle.tc_segment.proofs.Keeping.{edges_more, shown_grown, fits_grown, fits_at, entries_are, not_open, opened_journal, sound_opened}
@@ -18,9 +19,9 @@ opened_view a edges place from fuel start k none stands len =
     let old = map (shown a.edges.words a.words.items) a.records.items in
     let all = entries_are a.sealed old (let h = k.closed in omega (arith, length-map a.records.items (shown a.edges.words a.words.items))) in
     let lock = ap (replayed a.of.value a.number (mutex_at_start a.of.value a.number)) (sym all) ∙ sym (k.sound.rest none) in
-    let j = opened_journal a.of.value a.number a.limit a.strict old _ a.sealed a.edges.words edges.words a.words.items a.entry_room a.word_room place from start fuel (lock_of (view_of a))
+    let j = opened_journal a.of.value a.number a.limit a.strict old _ a.sealed a.edges.words edges.words a.words.items a.entry_room (room_in a.words) place from start fuel (lock_of (view_of a))
     (shown_grown (edges_more a.edges.words edges.words a.words.items stands.more) a.records.items k.records) (stands_is stands.place) len lock
-    ∙ ap (λ o. opened_at (lock_of (view_of a)) start fuel (shown_journal (grounds a.of.value a.number a.limit a.strict a.edges.words a.words.items) old a.sealed o a.entry_room a.word_room)) (sym (not_open _ a.opened none)) in
+    ∙ ap (λ o. opened_at (lock_of (view_of a)) start fuel (shown_journal (grounds a.of.value a.number a.limit a.strict a.edges.words a.words.items) old a.sealed o a.entry_room (room_in a.words))) (sym (not_open _ a.opened none)) in
     λ i. record { number = a.number; bytes = a.bytes.items; broken = a.broken; sections = a.sections; journal = j i }
 
 pub opened_kept : (a : Contents) (edges : Edges) (place from fuel : ℕ) (start : Registers) → KeptLock a → (view_of a).journal.opened ≡ None → (view_of a).journal.closed ≡ None → 0 < a.entry_room → StandsBeside start a.edges edges place
@@ -38,7 +39,6 @@ opened_kept a edges place from fuel start k none closed room stands len =
       short = k.short;
       entry_room = (let h = k.entry_room in omega arith);
       edge_room = (let h = k.edge_room in let less = stands.room in omega (arith, room));
-      word_room = k.word_room;
       word_places = k.word_places;
     }
 

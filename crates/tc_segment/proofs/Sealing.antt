@@ -1,5 +1,5 @@
 -- An entry that is sealed.
-use Rattle.std.proofs.Common.{◌≡◌, ℕ, ◌+◌, ◌≤◌, Bool, true, false, ◌&&◌, ◌<◌, List, [], ◌∷◌, ◌++◌, map, set, take, length, refl, sym, ap, subst, ◌∙◌, arith, append_assoc, append-nil, ◌==◌}
+use Rattle.std.proofs.Common.{◌≡◌, ℕ, ◌+◌, ◌≤◌, Bool, true, false, ◌&&◌, ◌<◌, List, [], ◌∷◌, ◌++◌, map, set, take, length, refl, sym, ap, subst, ◌∙◌, arith, ◌==◌}
 use Rattle.tc_segment.proofs.Vocabulary.{AreReplayed, Block, Entry, IsSoundLock, IsStrict, LockView, Mutex, Opening, Record, Replays, Shown, Taken, block_in, block_of, blocks_of, entries, last_of, may_begin, mutex_at_start, replayed, run_after, run_of, sealed_as, sealed_block, sealed_entry, sealed_list, shown, shown_journal, shown_open, with_closed, with_journal, grounds}
 use Rattle.std.proofs.lemmas.List.{map-append, length-set, take-map, take_all, take_more_set}
 use Rattle.std.proofs.lemmas.Option.{slice_get_past, slice_get_within}
@@ -10,7 +10,7 @@ use Rattle.tc_journal.proofs.Batching.{obeys-more, passes-more}
 use Rattle.tc_journal.specs.declared.block.Kind.{Kind}
 use Rattle.tc_journal.specs.declared.block.Kind.TheVariants.{Start, On, Adopted, Granted}
 use Rattle.tc_turn.specs.Replay.{replay_entry}
-use Rattle.tc_journal.specs.Batch.{begins, unlocks, is_only, may_adopt, is_adopted, run_from, allows_of, may_follow, ObeysAfter, Obeys, passes_on, PassesOnAfter, PassesOn}
+use Rattle.tc_journal.specs.Batch.{begins, unlocks, is_only, may_adopt, is_adopted, allows_of, may_follow, Obeys, passes_on, PassesOn}
 use Rattle.tc_segment.proofs.Journals.{replayed-more}
 use Rattle.tc_segment.proofs.Keeping.{entries_are}
 

@@ -1,5 +1,5 @@
 -- A lock state's fields, as it is seen, and what they keep.
-use Rattle.std.specs.Prelude.{◌≡◌, ℕ, ◌+◌, ◌-◌, ◌*◌, ◌^◌, ◌<◌, ◌≤◌, Bool, List, [], ◌∷◌, map, length, take, drop, slice_get, Vec, vec_len, vec_capacity, Option, Some, None, option_map, Result, OnOk}
+use Rattle.std.specs.Prelude.{◌≡◌, ℕ, ◌+◌, ◌-◌, ◌*◌, ◌^◌, ◌<◌, ◌≤◌, Bool, List, [], ◌∷◌, map, length, take, drop, slice_get, Vec, vec_len, vec_capacity, Option, Some, None, option_map, Result, OnOk, OnErr}
 use Rattle.std.specs.Global.{Global}
 use Rattle.tc_elf.specs.Shown.{Shown, guard_at}
 use Rattle.tc_journal.specs.Batch.{run_of}
@@ -9,6 +9,7 @@ use Rattle.tc_turn.specs.Replay.{Entry, replayed}
 use Rattle.tc_segment.specs.declared.record.Record.{Record}
 use Rattle.tc_segment.specs.declared.record.Opening.{Opening}
 use Rattle.tc_segment.specs.declared.state.Contents.{Contents}
+use Rattle.tc_segment.specs.Edges.{room_in}
 use Rattle.tc_segment.specs.Packed.{IsPlace, regs_at}
 use Rattle.tc_segment.specs.declared.packed.TheConstants.{MOST_WORDS}
 use Rattle.tc_segment.specs.View.{LockView, Journal, Opened, IsSoundLock, blocks_of, sealed_block}
@@ -57,7 +58,7 @@ view_of a = record {
   bytes = a.bytes.items;
   broken = a.broken;
   sections = a.sections;
-  journal = shown_journal (grounds a.of.value a.number a.limit a.strict a.edges.words a.words.items) (map (shown a.edges.words a.words.items) a.records.items) a.sealed a.opened a.entry_room a.word_room;
+  journal = shown_journal (grounds a.of.value a.number a.limit a.strict a.edges.words a.words.items) (map (shown a.edges.words a.words.items) a.records.items) a.sealed a.opened a.entry_room (room_in a.words);
 }
 
 -- ---- what is kept
@@ -74,6 +75,7 @@ pub record HasMadeRoom {X E : Type 0} (more : ℕ) (old new : Vec X Global) (wen
   pub items : new.items ≡ old.items
   pub capacity : vec_capacity old ≤ vec_capacity new
   pub ok : OnOk went (vec_len new + more ≤ vec_capacity new)
+  pub err : OnErr went (vec_capacity new ≡ vec_capacity old)
 
 -- and so have so many words, at places that are numbers of 32 bits
 pub record HasWordRoom {E : Type 0} (more : ℕ) (old new : Vec ℕ Global) (went : Result (Unit {0}) E) : Type 0 where
@@ -103,5 +105,4 @@ pub record KeptLock (a : Contents) : Type 0 where
   pub short : a.run ≤ a.limit
   pub entry_room : vec_len a.records + a.entry_room + count a.opened ≤ vec_capacity a.records
   pub edge_room : MOST_WORDS * (2 * a.entry_room + count a.opened) ≤ a.edges.room
-  pub word_room : vec_len a.words + a.word_room ≤ vec_capacity a.words
-  pub word_places : vec_len a.words + a.word_room < 2 ^ 32
+  pub word_places : vec_len a.words < 2 ^ 32

@@ -21,7 +21,7 @@ pub record Opened : Type 0 where
   pub from : Mutex
   pub foreign : List ℕ
 
--- the sealed entries, the closed one that isn't sealed yet, and the open one, with the room for one entry and for words; a
+-- the sealed entries, the closed one that isn't sealed yet, and the open one, with the room for entries and for words; a
 -- strict journal takes no section that is passed on to the thread that had the lock before
 pub record Journal : Type 0 where
   pub image : Shown
@@ -160,6 +160,11 @@ with_journal f l = record l { journal = f l.journal }
 
 abbrev pub with_room : ℕ → ℕ → Journal → Journal
 with_room entries words j = record j { entry_room = entries; word_room = words }
+
+-- there is room for an entry with so many words
+pub record HasRoomFor (count : ℕ) (j : Journal) : Type 0 where
+  pub entry : 0 < j.entry_room
+  pub words : count ≤ j.word_room
 
 abbrev pub strict_as : Bool → Journal → Journal
 strict_as strict j = record j { strict = strict }

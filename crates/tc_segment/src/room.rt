@@ -4,7 +4,8 @@
 //! small run. Each allocation is a power of two of bytes, including the two 8-byte words that an
 //! allocator keeps before it, so that large ones fill whole large pages of the host.
 
-ghost use Rattle.std.specs.Prelude.{◌<◌, ◌^◌, vec_len};
+ghost use Rattle.std.specs.Prelude.{◌≡◌, ◌<◌, ◌^◌, vec_len};
+ghost use Rattle.tc_segment.specs.Edges.{room_in};
 ghost use Rattle.tc_segment.specs.Kept.{HasMadeRoom, HasWordRoom};
 
 use crate::record::Record;
@@ -44,24 +45,32 @@ impl Growth {
     }
 }
 
-/// Makes room for two records more.
-pub(crate) fn make_records(records: &mut Vec<Record>) -> Result<(), AllocError>
-    ensures { HasMadeRoom 2 records.old records.new result }
+/// Makes room for so many records more.
+pub(crate) fn make_records(records: &mut Vec<Record>, more: usize) -> Result<(), AllocError>
+    ensures { HasMadeRoom more records.old records.new result }
 {
-    if records.capacity() - records.len() >= 2 {
+    if more <= records.capacity() - records.len() {
         return Ok(());
     }
-    grow_records(records)
+    grow_records(records, more)
 }
 
 #[cold]
 #[inline(never)]
-fn grow_records(records: &mut Vec<Record>) -> Result<(), AllocError>
-    ensures { HasMadeRoom 2 records.old records.new result }
+fn grow_records(records: &mut Vec<Record>, more: usize) -> Result<(), AllocError>
+    ensures { HasMadeRoom more records.old records.new result }
 {
     let room = RECORDS.after(records.capacity());
-    let more = room.saturating_sub(records.len());
-    records.reserve(more.max(2))
+    let least = room.saturating_sub(records.len());
+    records.reserve(more.max(least))
+}
+
+/// For how many words more there is room.
+pub(crate) fn room_in(words: &Vec<u32>) -> usize
+    requires { vec_len words.now < 2 ^ 32 }
+    ensures { result ≡ room_in words.now }
+{
+    words.capacity().min(u32::MAX as usize) - words.len()
 }
 
 /// Makes room for so many words more. The place of a word is a number of 32 bits, so more words than
@@ -70,8 +79,7 @@ pub(crate) fn make_words(words: &mut Vec<u32>, more: usize) -> Result<(), AllocE
     requires { vec_len words.old < 2 ^ 32 }
     ensures { HasWordRoom more words.old words.new result }
 {
-    let most = u32::MAX as usize;
-    if more <= words.capacity().min(most) - words.len() {
+    if more <= room_in(words) {
         return Ok(());
     }
     grow_words(words, more)

@@ -6,13 +6,13 @@ ghost use Rattle.tc_elf.specs.Places.{in_guard};
 ghost use Rattle.tc_exec.specs.Told.{IsWidth};
 ghost use Rattle.tc_journal.specs.Batch.{run_of};
 ghost use Rattle.tc_segment.specs.Lent.{entry_lent};
-ghost use Rattle.tc_segment.specs.View.{CanStart, IsSoundLock, allows_in, passes_in, number_of_guard, ClosesWith, MayFollow, MayPass, lock_of, guard_of, with_store, with_section, with_break, with_end, with_journal, EndedAt, opened_at, noted, closed_with, sealed_as, with_room, strict_as, blocks_of, entries, fresh_state};
+ghost use Rattle.tc_segment.specs.View.{CanStart, IsSoundLock, allows_in, passes_in, number_of_guard, ClosesWith, MayFollow, MayPass, lock_of, guard_of, with_store, with_section, with_break, with_end, with_journal, EndedAt, HasRoomFor, opened_at, noted, closed_with, sealed_as, kept, strict_as, blocks_of, entries, fresh_state};
 
 use crate::edges::Edges;
 use crate::entry::Entry;
 use crate::packed::{MOST_WORDS, Packed};
 use crate::record::{Opening, Record, last_block};
-use crate::room::{make_records, make_words};
+use crate::room::{make_records, make_words, room_in};
 use std::alloc::{AllocError, Global};
 use std::marker::Model;
 use std::snapshot::Snapshot;
@@ -22,6 +22,9 @@ use tc_journal::batch::{may_begin, passes_to, run_after};
 use tc_journal::block::{Block, Kind};
 use tc_turn::memory::{put_number, starting_bytes};
 use tc_turn::number::number_from;
+
+/// For how many entries room is made at once.
+const MORE_ENTRIES: usize = 64;
 
 /// What a lock state has, in one piece of memory.
 #[derive(Drop)]
@@ -41,8 +44,8 @@ struct Contents {
     opened: Option<Opening>,
     edges: Edges,
     words: Vec<u32>,
+    // For how many entries more there is room.
     entry_room: usize,
-    word_room: usize,
 }
 
 /// A lock with the bytes of its guard, and the journal of the blocks that ran with it.
@@ -122,7 +125,6 @@ impl LockState {
             edges: Edges::new(alloc),
             words: Vec::new(alloc),
             entry_room: 0,
-            word_room: 0,
         };
         Ok(LockState {
             contents: Box::new(alloc, contents)?,
@@ -221,19 +223,34 @@ impl LockState {
         !contents.strict || passes_to(last, kind, thread)
     }
 
-    /// Makes room for one entry and as many foreign words. An index in a journal has 32 bits, so
-    /// more words than that are refused as if memory had run out.
+    /// For how many entries more there is room.
+    pub fn entry_room(&self) -> usize
+        ensures { result ≡ self.now.journal.entry_room }
+    {
+        self.contents.entry_room
+    }
+
+    /// For how many foreign words more there is room.
+    pub fn word_room(&self) -> usize
+        ensures { result ≡ self.now.journal.word_room }
+    {
+        room_in(&self.contents.words)
+    }
+
+    /// Makes room for many entries, and for at least as many foreign words. An index in a journal
+    /// has 32 bits, so more words than that are refused as if memory had run out. Nothing but
+    /// capacities changes, and after a refusal nothing at all.
     pub fn reserve(&mut self, turns: usize) -> Result<(), AllocError>
-        ensures ok { OnOk result (self.new ≡ with_journal (with_room 1 turns) self.old) }
+        ensures ok { OnOk result (HasRoomFor turns self.new.journal) }
         ensures err { OnErr result (self.new ≡ self.old) }
+        ensures same { kept self.new ≡ kept self.old }
     {
         let contents = &mut *self.contents;
         // One more beside one that is open, with the registers before and after each.
-        make_records(&mut contents.records)?;
-        contents.edges.reserve(3 * MOST_WORDS)?;
+        make_records(&mut contents.records, MORE_ENTRIES + 1)?;
+        contents.edges.reserve((2 * MORE_ENTRIES + 1) * MOST_WORDS)?;
         make_words(&mut contents.words, turns)?;
-        contents.entry_room = 1;
-        contents.word_room = turns;
+        contents.entry_room = MORE_ENTRIES;
         Ok(())
     }
 
@@ -317,7 +334,6 @@ impl LockState {
     {
         let contents = &mut *self.contents;
         contents.words.push_reserved(value);
-        contents.word_room -= 1;
     }
 
     /// Counts a section: the step took the lock.

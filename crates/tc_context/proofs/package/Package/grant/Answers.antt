@@ -1,8 +1,9 @@
-use Rattle.std.proofs.Common.{◌==◌, ◌∙◌, ap, sym, subst, set, arith, Some, slice_index_or, if◌then◌else◌}
-use Rattle.tc_context.proofs.Vocabulary.{IsAtRest, PackageView, IsSoundPackage, IsWaiting, MayPassTo, number_in, view_of}
+use Rattle.std.proofs.Common.{◌≡◌, ◌==◌, ◌∙◌, ap, sym, subst, set, arith, Some, slice_index_or, if◌then◌else◌}
+use Rattle.tc_context.proofs.Vocabulary.{Gives, IsAtRest, PackageView, IsSoundPackage, IsWaiting, MayPassTo, number_in, view_of}
 use Rattle.tc_mutex_spec.proofs.ListLaws.{get_or-set}
 use Rattle.tc_context.proofs.Ended.{ended_placed}
 use Rattle.tc_context.proofs.Staging.{shows, granted_sound, set_with, wanted}
+use Rattle.tc_context.proofs.Rooms.{gives_placed}
 use Rattle.tc_context.proofs.package.Package.grant.Goals as goal
 
 pub invariant_of-self : goal.invariant_of-self
@@ -24,7 +25,8 @@ invariant_of-self c =
       next = s.kept.next;
       present = set_with c.args.lock.number _ c.args.lock p.context.locks _ c.deref_mut-contents.result.now.present _ n c.put_in.ensures.locks c.plus-contents.ensures.each s.kept.present;
       pending = s.kept.pending;
-      log = s.kept.log;
+      log = (let h = s.kept.log in let less = c.with-contents.ensures.rest.entries in omega (arith, h, less));
+      room = gives_placed c.args.lock.number (Some c.args.lock) p.context.locks _ _ _ c.put_in.ensures.locks c.with-contents.ensures.rest (λ l is. subst (Gives _) (let e : c.args.lock ≡ l = cc in e) c.with-contents.ensures.lock) s.kept.room;
       own = s.kept.own;
     }
 

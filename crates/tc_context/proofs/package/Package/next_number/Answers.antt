@@ -16,5 +16,6 @@ invariant_of-self c =
       present = s.kept.present;
       pending = s.kept.pending;
       log = s.kept.log;
+      room = s.kept.room;
       own = s.kept.own;
     }

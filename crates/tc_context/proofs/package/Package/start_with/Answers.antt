@@ -6,6 +6,7 @@ use Rattle.tc_turn.specs.Turn.{thread_at_start, with_own}
 use Rattle.tc_turn.proofs.Turns.{next_by_own}
 use Rattle.tc_context.proofs.Vocabulary.{has, next_lock, thread_in, KeptPackage}
 use Rattle.tc_context.proofs.Staging.{fresh_sound}
+use Rattle.tc_context.specs.declared.room.Room.{Room}
 use Rattle.tc_context.proofs.package.Package.start_with.Goals as goal
 
 pub invariant_of-result : goal.invariant_of-result
@@ -19,7 +20,7 @@ invariant_of-result c = subst KeptPackage (sym c.in_ok-new.ensures.ok) (record {
     granted = refl;
     pending = refl;
     log = c.new.ensures.items;
-    log_room = refl;
+    log_room = omega (arith, c.new.ensures.len, c.new.ensures.capacity);
     numbers = refl;
     turns = refl;
     slept = refl;
@@ -31,6 +32,7 @@ invariant_of-result c = subst KeptPackage (sym c.in_ok-new.ensures.ok) (record {
   pending = refl;
   ended = λ k l found h. absurd (let f : None ≡ Some l = sym (c.in_ok-context.ensures.locks k) ∙ found in cc);
   edge = λ no. absurd (cc);
-  log = omega (arith, c.new.ensures.len, c.new.ensures.capacity);
+  log = omega (arith, ap (λ (r : Room). r.entries) c.none-2.ensures);
+  room = λ k l found. absurd (let f : None ≡ Some l = sym (c.in_ok-context.ensures.locks k) ∙ found in cc);
   own = λ room. absurd (omega (arith, room, c.new.ensures.len, c.new.ensures.capacity));
 })

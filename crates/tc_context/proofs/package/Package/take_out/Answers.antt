@@ -1,8 +1,9 @@
-use Rattle.std.proofs.Common.{◌<◌, ap, subst, sym, ◌∙◌, None, is_some}
+use Rattle.std.proofs.Common.{◌<◌, arith, ap, subst, sym, ◌∙◌, None, is_some}
 use Rattle.tc_context.proofs.Vocabulary.{has, IsAtRest, lock_in, PackageView, IsSoundPackage, view_of}
 use Rattle.tc_context.proofs.LockList.{with_locks}
 use Rattle.tc_context.proofs.Ended.{ended_placed}
 use Rattle.tc_context.proofs.Staging.{shows, place_small, at_rest, set_without, taken_sound}
+use Rattle.tc_context.proofs.Rooms.{gives_placed}
 use Rattle.tc_context.proofs.package.Package.take_out.Goals as goal
 
 pub take_out-requires : goal.take_out-requires
@@ -27,6 +28,7 @@ invariant_of-self c =
       present = set_without c.args.lock p.context.locks _ c.deref_mut-contents.result.now.present _ c.take_out.ensures.left c.less-contents.ensures.each s.kept.present;
       pending = s.kept.pending;
       log = s.kept.log;
+      room = gives_placed c.args.lock None p.context.locks _ _ _ c.take_out.ensures.left (record { entries = omega arith; words = omega arith }) (λ l no. absurd (cc)) s.kept.room;
       own = s.kept.own;
     }
 

@@ -1,6 +1,7 @@
 use Rattle.std.proofs.Common.{◌≡◌, ◌∙◌, length, sym, ap, subst, arith}
 use Rattle.tc_segment.proofs.Vocabulary.{AllFit, IsSoundLock, KeptLock, LockView, Shown, blocks_of, guard_at, run_of}
 use Rattle.tc_turn.specs.Memory.{starting_bytes}
+use Rattle.tc_segment.specs.Edges.{room_in}
 use Rattle.tc_segment.proofs.Keeping.{fresh_view, sound_fresh}
 use Rattle.tc_segment.proofs.state.LockState.at_start.Goals as goal
 
@@ -15,7 +16,8 @@ invariant_of-result c =
     let edges = c.new-2.result.words in
     let words = c.new-3.result.items in
     let records = c.new.ensures.items in
-    let view = fresh_view _ image c.args.lock c.args.limit c.args.strict _ words edges _ of bytes records in
+    let room : room_in c.new-3.result ≡ 0 = omega (arith, c.new-3.ensures.len, c.new-3.ensures.capacity) in
+    let view = fresh_view _ image c.args.lock c.args.limit c.args.strict _ words edges _ _ of bytes records room in
     let none = ap length records in
     subst KeptLock (sym c.in_ok-new.ensures.ok) (record {
       sound = subst (λ (l : LockView). IsSoundLock l) (sym view) (sound_fresh image c.args.lock c.args.limit c.args.strict c.requires.known (omega arith) guard.kept c.requires.lawful);
@@ -28,6 +30,5 @@ invariant_of-result c =
       short = omega arith;
       entry_room = omega arith;
       edge_room = omega arith;
-      word_room = omega arith;
       word_places = omega arith;
     })

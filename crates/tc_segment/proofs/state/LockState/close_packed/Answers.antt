@@ -3,6 +3,7 @@ use Rattle.tc_segment.proofs.Vocabulary.{AllFit, Block, Closes, ClosesWith, Cont
 use Rattle.std.specs.Prelude.{Option, Some, None, option_map, is_some}
 use Rattle.std.proofs.lemmas.List.{length-map, map-append}
 use Rattle.tc_journal.specs.Batch.{ends_thread}
+use Rattle.tc_segment.specs.Edges.{room_in}
 use Rattle.tc_segment.specs.Kept.{count}
 use Rattle.tc_segment.proofs.Packing.{stands_is, place_of-stands}
 use Rattle.tc_segment.proofs.Keeping.{edges_more, shown_grown, fits_grown, fits_end, none_closed, closed_journal, sound_closed}
@@ -17,14 +18,14 @@ was_open a o is = ap (λ x. is_some (option_map (shown_open (replayed a.of.value
 
 closed_view : (a : Contents) (more : List ℕ) (records : List Record) (o : Opening) (block : Block) (finish : Registers) (place to : ℕ) → KeptLock a → a.opened ≡ Some o → Extends a.edges.words more → StandsAt more place finish
     → to ≡ length a.words.items → records ≡ a.records.items ++ record_of block o place to ∷ []
-    → shown_journal (grounds a.of.value a.number a.limit a.strict more a.words.items) (map (shown more a.words.items) records) a.sealed None a.entry_room a.word_room ≡ closed_with block finish (view_of a).journal
+    → shown_journal (grounds a.of.value a.number a.limit a.strict more a.words.items) (map (shown more a.words.items) records) a.sealed None a.entry_room (room_in a.words) ≡ closed_with block finish (view_of a).journal
 closed_view a more records o block finish place to k is extends there len made =
     let old = map (shown a.edges.words a.words.items) a.records.items in
     let r = record_of block o place to in
     let none = none_closed a.sealed old (let h = k.sealed in omega (arith, length-map a.records.items (shown a.edges.words a.words.items))) (k.sound.alone (was_open a o is)) in
     let new = ap (map (shown more a.words.items)) made ∙ map-append (shown more a.words.items) a.records.items (r ∷ [])
     ∙ ap (λ es. es ++ shown more a.words.items r ∷ []) (shown_grown (edges_more a.edges.words more a.words.items extends) a.records.items k.records) in
-    closed_journal a.of.value a.number a.limit a.strict old _ a.sealed a.edges.words more a.words.items a.opened a.entry_room a.word_room o block finish place to is extends
+    closed_journal a.of.value a.number a.limit a.strict old _ a.sealed a.edges.words more a.words.items a.opened a.entry_room (room_in a.words) o block finish place to is extends
     (subst (λ x. OpenFits a.edges.words a.words.items x) is k.opened) (stands_is there) len none new
 
 pub returns : goal.returns
@@ -86,6 +87,5 @@ invariant_of-self-2 c =
       short = k.short;
       entry_room = (let h = k.entry_room in omega (arith, one, c.push_reserved.ensures.len, c.push_reserved.ensures.capacity));
       edge_room = (let h = k.edge_room in let less = place.room in omega (arith, one));
-      word_room = k.word_room;
       word_places = k.word_places;
     }

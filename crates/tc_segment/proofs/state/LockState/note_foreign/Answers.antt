@@ -1,15 +1,16 @@
 use Rattle.std.proofs.Common.{◌≡◌, ℕ, [], List, ◌∷◌, ◌++◌, ◌-◌, ◌<◌, true, map, sym, ap, subst, ◌∙◌, arith}
 use Rattle.tc_segment.proofs.Vocabulary.{AllFit, Contents, IsSoundLock, KeptLock, LockView, OpenFits, blocks_of, noted, run_of, shown, shown_journal, view_of, with_journal, grounds}
 use Rattle.std.specs.Prelude.{is_some}
+use Rattle.tc_segment.specs.Edges.{room_in}
 use Rattle.tc_segment.proofs.Keeping.{word_more, shown_grown, fits_grown, noted_journal, sound_noted, open_fits-more}
 use Rattle.tc_segment.proofs.state.LockState.note_foreign.Goals as goal
 
-noted_view : (a : Contents) (words : List ℕ) (value : ℕ) → KeptLock a → is_some (view_of a).journal.opened ≡ true → words ≡ a.words.items ++ value ∷ []
-    → record { number = a.number; bytes = a.bytes.items; broken = a.broken; sections = a.sections; journal = shown_journal (grounds a.of.value a.number a.limit a.strict a.edges.words words) (map (shown a.edges.words words) a.records.items) a.sealed a.opened a.entry_room (a.word_room - 1) } ≡ with_journal (noted (value ∷ [])) (view_of a)
-noted_view a words value k was e =
+noted_view : (a : Contents) (words : List ℕ) (room value : ℕ) → KeptLock a → is_some (view_of a).journal.opened ≡ true → words ≡ a.words.items ++ value ∷ [] → room ≡ room_in a.words - 1
+    → record { number = a.number; bytes = a.bytes.items; broken = a.broken; sections = a.sections; journal = shown_journal (grounds a.of.value a.number a.limit a.strict a.edges.words words) (map (shown a.edges.words words) a.records.items) a.sealed a.opened a.entry_room room } ≡ with_journal (noted (value ∷ [])) (view_of a)
+noted_view a words room value k was e less =
     let old = map (shown a.edges.words a.words.items) a.records.items in
-    let j = ap (λ ws. shown_journal (grounds a.of.value a.number a.limit a.strict a.edges.words ws) (map (shown a.edges.words ws) a.records.items) a.sealed a.opened a.entry_room (a.word_room - 1)) e
-    ∙ noted_journal a.of.value a.number a.limit a.strict old _ a.sealed a.edges.words a.words.items a.opened a.entry_room a.word_room value
+    let j = (λ i. shown_journal (grounds a.of.value a.number a.limit a.strict a.edges.words (e i)) (map (shown a.edges.words (e i)) a.records.items) a.sealed a.opened a.entry_room (less i))
+    ∙ noted_journal a.of.value a.number a.limit a.strict old _ a.sealed a.edges.words a.words.items a.opened a.entry_room (room_in a.words) value
     (shown_grown (word_more a.edges.words a.words.items (value ∷ [])) a.records.items k.records) k.opened was in
     λ i. record { number = a.number; bytes = a.bytes.items; broken = a.broken; sections = a.sections; journal = j i }
 
@@ -17,7 +18,7 @@ pub returns : goal.returns
 returns c =
     let shows = ap view_of c.deref_mut-contents.ensures.value ∙ c.self.view_is in
     let kept = subst KeptLock (sym c.deref_mut-contents.ensures.value) c.self.invariant in
-    noted_view c.deref_mut-contents.result.now _ c.args.value kept (ap (λ (l : LockView). is_some l.journal.opened) shows ∙ c.requires.opened) c.push_reserved.ensures.items
+    noted_view c.deref_mut-contents.result.now _ _ c.args.value kept (ap (λ (l : LockView). is_some l.journal.opened) shows ∙ c.requires.opened) c.push_reserved.ensures.items (omega (arith, c.push_reserved.ensures.len, c.push_reserved.ensures.capacity))
     ∙ ap (with_journal (noted (c.args.value ∷ []))) shows
 
 pub invariant_of-self : goal.invariant_of-self
@@ -28,9 +29,8 @@ invariant_of-self c =
     let k = kept in
     let items = c.push_reserved.ensures.items in
     let was = ap (λ (l : LockView). is_some l.journal.opened) shows ∙ c.requires.opened in
-    let view = noted_view a _ c.args.value k was items in
-    let room : 0 < a.word_room = subst (λ (l : LockView). 0 < l.journal.word_room) (sym shows) c.requires.room in
-    let words = k.word_room in
+    let view = noted_view a c.push_reserved.new.self.items (room_in c.push_reserved.new.self) c.args.value k was items (omega (arith, c.push_reserved.ensures.len, c.push_reserved.ensures.capacity)) in
+    let room : 0 < room_in a.words = subst (λ (l : LockView). 0 < l.journal.word_room) (sym shows) c.requires.room in
     record {
       sound = subst (λ (l : LockView). IsSoundLock l) (sym view) (sound_noted (c.args.value ∷ []) (view_of a) k.sound was);
       start = k.start;
@@ -42,6 +42,5 @@ invariant_of-self c =
       short = k.short;
       entry_room = k.entry_room;
       edge_room = k.edge_room;
-      word_room = omega (arith, c.push_reserved.ensures.len, c.push_reserved.ensures.capacity);
-      word_places = (let places = k.word_places in omega (arith, c.push_reserved.ensures.len));
+      word_places = omega (arith, room, c.push_reserved.ensures.len);
     }

@@ -1,0 +1,82 @@
+-- The room that a package's locks have.
+use Rattle.std.proofs.Common.{◌≡◌, ℕ, ◌-◌, ◌≤◌, Bool, true, false, not, ◌==◌, ◌&&◌, List, length, refl, sym, ap, subst, ◌∙◌, inl, inr, arith, Option, Some, if◌then◌else◌}
+use Rattle.tc_context.proofs.Vocabulary.{option_map, MAX_TURNS, Shown, Block, Journal, LockView, Context, Changed, EachLock, Gives, HasRoomFor, IsPlaced, IsWithin, SameLocks, lock_in, sealed_as, sealed_in, with_journal, Journals, entered, entry_of, journal_at, journal_in, whole}
+use Rattle.std.proofs.lemmas.Bool.Decides.{eqb_tells}
+use Rattle.tc_turn.specs.Replay.{Entry}
+use Rattle.tc_turn.proofs.Words.{words_short}
+use Rattle.tc_mutex_spec.proofs.OptionLaws.{map_some}
+use Rattle.tc_isa.specs.Sets.{has}
+use Rattle.tc_context.specs.declared.room.Room.{Room}
+use Rattle.tc_context.proofs.LockList.{when_field}
+
+-- each lock of a set has room where a walk over the set has been, and nothing but rooms is changed
+pub record Reserved (held left : ℕ → Bool) (old now : List (Option LockView)) : Type 0 where
+  pub same : SameLocks old now
+  pub room : (k : ℕ) (l : LockView) → lock_in now k ≡ Some l → held k ≡ true → left k ≡ false → HasRoomFor MAX_TURNS l.journal
+
+pub reserved_on : (held left rest : ℕ → Bool) (n : ℕ) (old mid new : List (Option LockView)) → ((k : ℕ) → rest k ≡ (not (k == n) && left k)) → Reserved held left old mid → SameLocks mid new
+    → ((l : LockView) → lock_in new n ≡ Some l → HasRoomFor MAX_TURNS l.journal) → ((k : ℕ) → (k == n) ≡ false → lock_in new k ≡ lock_in mid k) → Reserved held rest old new
+reserved_on held left rest n old mid new less was same here others = record {
+  same = λ k. same k ∙ was.same k;
+  room = λ k l e h out. elim (eqb_tells k n) [
+    | inl f ↦ here l (ap (lock_in new) (sym f.1) ∙ e)
+    | inr f ↦ was.room k l (sym (others k f.0) ∙ e) h (sym (ap (λ b. not b && left k) f.0) ∙ sym (less k) ∙ out)
+  ];
+}
+
+-- a room is in each lock of a set where a walk over the set has been
+pub record Given (held left : ℕ → Bool) (room most : Room) (now : List (Option LockView)) : Type 0 where
+  pub within : IsWithin room most
+  pub locks : (k : ℕ) (l : LockView) → lock_in now k ≡ Some l → held k ≡ true → left k ≡ false → Gives room l
+
+pub gives_less : (room most : Room) (l : LockView) → IsWithin room most → Gives most l → Gives room l
+gives_less room most l within gives = (let entries = within.entries in let words = within.words in let e = gives.entries in let w = gives.words in record { entries = omega (arith, entries, e); words = omega (arith, words, w) })
+
+pub given_on : (held left rest : ℕ → Bool) (n : ℕ) (room was most : Room) (locks : List (Option LockView)) → ((k : ℕ) → rest k ≡ (not (k == n) && left k)) → Given held left was most locks → IsWithin room was
+    → ((l : LockView) → lock_in locks n ≡ Some l → Gives room l) → Given held rest room most locks
+given_on held left rest n room was most locks less given within here = record {
+  within = (let a = within.entries in let b = given.within.entries in let c = within.words in let d = given.within.words in record { entries = omega (arith, a, b); words = omega (arith, c, d) });
+  locks = λ k l e h out. elim (eqb_tells k n) [
+    | inl f ↦ here l (ap (lock_in locks) (sym f.1) ∙ e)
+    | inr f ↦ gives_less room was l within (given.locks k l e h (sym (ap (λ b. not b && left k) f.0) ∙ sym (less k) ∙ out))
+  ];
+}
+
+abbrev pub EachGives : Room → List (Option LockView) → Type 0
+EachGives room locks = EachLock (λ k l. Gives room l) locks
+
+pub gives_none : (locks : List (Option LockView)) → EachGives (record { entries = 0; words = 0 }) locks
+gives_none locks k l e = record { entries = omega arith; words = omega arith }
+
+-- a lock is put in or taken out
+pub gives_placed : (n : ℕ) (o : Option LockView) (old new : List (Option LockView)) (room most : Room) → IsPlaced n o old new → IsWithin room most → ((l : LockView) → o ≡ Some l → Gives room l) → EachGives most old → EachGives room new
+gives_placed n o old new room most placed within here each k l e = elim (eqb_tells k n) [
+  | inl f ↦ here l (sym (placed k ∙ ap (λ b. if b then o else lock_in old k) f.0) ∙ e)
+  | inr f ↦ gives_less room most l within (each k l (sym (placed k ∙ ap (λ b. if b then o else lock_in old k) f.0) ∙ e))
+]
+
+-- a seal takes no room
+pub gives_sealed : (held : ℕ → Bool) (stamp worker : ℕ) (old new : List (Option LockView)) (room : Room) → Changed (sealed_in held stamp worker) old new → EachGives room old → EachGives room new
+gives_sealed held stamp worker old new room changed each k l e =
+    let x = map_some (sealed_in held stamp worker k) (lock_in old k) l (sym (changed k) ∙ e) in
+    let was = each k x.0 x.1 in
+    let entries = when_field (λ (y : LockView). y.journal.entry_room) (held k) (with_journal (sealed_as stamp worker)) x.0 refl in
+    let words = when_field (λ (y : LockView). y.journal.word_room) (held k) (with_journal (sealed_as stamp worker)) x.0 refl in
+    subst (Gives room) (sym x.2) (record { entries = subst (λ n. room.entries ≤ n) (sym entries) was.entries; words = subst (λ n. room.words ≤ n) (sym words) was.words })
+
+-- the room behind a block of so many turns
+abbrev pub behind : ℕ → Room → Room
+behind turns room = record { entries = room.entries - 1; words = room.words - turns }
+
+gives_entered : (b : Bool) (e : Entry) (j : Journal) (room : Room) (turns : ℕ) → length e.foreign ≤ turns → room.entries ≤ j.entry_room → room.words ≤ j.word_room → (room.entries - 1 ≤ (entered b e j).entry_room) × (room.words - turns ≤ (entered b e j).word_room)
+gives_entered true e j room turns few entries words = (omega (arith, entries), omega (arith, few, words))
+gives_entered false e j room turns few entries words = (omega (arith, entries), omega (arith, words))
+
+pub gives_behind : (image : Shown) (old new : Context) (b : Block) (room : Room) → Journals image old new b → EachGives room old.locks → EachGives (behind b.turns room) new.locks
+gives_behind image old new b room journals each k l e =
+    let now = map_some (entered (has b.held k) (entry_of image k (whole old) b)) (journal_at old k) l.journal (sym (journals.entries k) ∙ ap (option_map journal_in) e) in
+    let was = map_some journal_in (lock_in old.locks k) now.0 now.1 in
+    let had = each k was.0 was.1 in
+    let has_room = gives_entered (has b.held k) (entry_of image k (whole old) b) now.0 room b.turns (words_short image k _ _ 0 b.turns)
+    (subst (λ (j : Journal). room.entries ≤ j.entry_room) (sym was.2) had.entries) (subst (λ (j : Journal). room.words ≤ j.word_room) (sym was.2) had.words) in
+    record { entries = subst (λ (j : Journal). room.entries - 1 ≤ j.entry_room) (sym now.2) has_room.0; words = subst (λ (j : Journal). room.words - b.turns ≤ j.word_room) (sym now.2) has_room.1 }
