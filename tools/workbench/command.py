@@ -31,7 +31,7 @@ GROUPS = {
     "measure": {f"bench {name}": f"benches.{name}" for name in
                 ("run", "several", "together", "nodes", "peer", "replay", "table")}}
 EVERY = {name: Subcommand(group, name, module) for group, some in GROUPS.items() for name, module in some.items()}
-USAGE = "usage: workbench SUBCOMMAND [WORD ..] | workbench SUBCOMMAND --help"
+USAGE = "usage: workbench SUBCOMMAND [ARGUMENT ..] | workbench SUBCOMMAND --help"
 
 
 def find(words: List[str]) -> Tuple[Subcommand, List[str]]:

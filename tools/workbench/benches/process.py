@@ -34,7 +34,7 @@ def words(bench: str, known: Iterable[str], usual: str, *first: str, **numbers: 
     -f, or -r for how many runs there are: of each what is usual (a list where it may be several, as 1,4), what it
     says, and another least one."""
     parser = tool.words(f"bench {bench}", *first)
-    parser.add_argument("guests", metavar="GUEST", nargs="*", help=f"{', '.join(known)}; {usual} when left out")
+    parser.add_argument("guests", metavar="GUEST", nargs="*", help=f"{', '.join(known)}; {usual} if left out")
     parser.add_argument("-p", dest="program", metavar="PROGRAM", type=Path,
                         help="the program to measure (the one that ./tclocks-build has built)")
     parser.add_argument("--results", metavar="FILE", help="keep the raw results there; bench table prints them")

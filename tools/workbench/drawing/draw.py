@@ -44,7 +44,7 @@ def main(words: list[str]) -> None:
     parser.add_argument("--guest", metavar="GUEST", help="the guest's file, for names, and for the page's bytes")
     parser.number("--from", (0, 10**9), "the first block that is drawn", 0, "A", dest="first")
     parser.number("--to", (0, 10**9), "the last block that is drawn", metavar="B")
-    parser.number("--most", (1, 100000), f"draw each block where there are at most N, else columns ({MOST})", MOST)
+    parser.number("--most", (1, 100000), f"draw each block if there are at most N, else columns ({MOST})", MOST)
     parser.add_argument("--title", metavar="TEXT", help="the picture's heading")
     parser.add_argument("--colour", action="store_true", help="with --text: colours even into a file")
     asked = parser.parse_args(words)

@@ -235,7 +235,7 @@ def words_of(parser: tool.Words) -> tool.Words:
     parser.number("--trace", (0, 10**9), metavar="BLOCK",
                   says="this block's instructions with their registers; alone, of this block only")
     parser.add_argument("--contexts", action="store_true",
-                        help="what a context carries where another worker goes on with it, and where the locks' bytes go")
+                        help="what a context carries if another worker goes on with it, and where the locks' bytes go")
     parser.add_argument("--words", nargs=argparse.REMAINDER, metavar="WORD",
                         help="the arguments that ./tclocks was given; this option comes last")
     return parser

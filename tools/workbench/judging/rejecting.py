@@ -157,10 +157,10 @@ def given_in(content: bytes) -> tuple[dict[str, int], bytes]:
 
 def main(words: list[str]) -> None:
     parser = tool.words("replay", "guest")
-    parser.report("a report, or block lines alone; standard input where it is left out", nargs="?", default="-")
+    parser.report("a report, or block lines alone; standard input if it is left out", nargs="?", default="-")
     parser.add_argument("--profile", action="store_const", dest="form", const="profile", default="replay",
                         help="as ./tclocks profile N W F B")
-    parser.add_argument("--model", action="store_true", help="by the model, where the program is built too")
+    parser.add_argument("--model", action="store_true", help="the model, even if the program is built")
     for name, some in limits.RUN.items():
         parser.number(f"--{name}", some, "in the place of the report's")
     asked = parser.parse_intermixed_args(words)

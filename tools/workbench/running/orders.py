@@ -62,7 +62,7 @@ def asked_of(words: List[str]) -> argparse.Namespace:
                               ("bound", limits.NUMBERS["bound"], program.YOUNGEST_BOUND),
                               ("fuel", limits.RUN["fuel"], 20000), ("runs", (1, 1000), 3), ("seed", (0, 10**9), 1)):
         parser.number(f"--{name}", some, f"({usual})", usual)
-    parser.add_argument("--model", action="store_true", help="the model, even where the programs are built")
+    parser.add_argument("--model", action="store_true", help="the model, even if the programs are built")
     parser.add_argument("--plot", metavar="FILE", help="write a picture of the means into it (SVG)")
     asked = parser.parse_args(words)
     if asked.nodes > asked.workers:
