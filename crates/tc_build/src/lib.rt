@@ -15,5 +15,3 @@ pub mod build;
 mod code;
 pub mod generate;
 pub mod law;
-#[cfg(test)]
-mod tests;

@@ -19,7 +19,5 @@ pub mod context;
 pub mod locks;
 pub mod package;
 mod room;
-#[cfg(test)]
-mod tests;
 
 pub use crate::package::Package;

@@ -22,13 +22,9 @@ pub mod alive;
 mod courses;
 mod custodies;
 pub mod event;
-#[cfg(test)]
-mod guests;
 mod line;
 pub mod machine;
 pub mod place;
-#[cfg(test)]
-mod tests;
 pub mod theorem;
 
 pub use crate::event::Event;

@@ -82,7 +82,7 @@ impl Core {
     }
 
     /// Where a lock is, and who gets it next; None if and only if there is no such lock.
-    pub(crate) fn custody(&self, lock: u32) -> Option<&Custody>
+    pub fn custody(&self, lock: u32) -> Option<&Custody>
         ensures { option_map (λ x. x.now) result ≡ slice_get self.now.custodies lock }
     {
         self.custodies.find(lock)

@@ -46,8 +46,6 @@ pub mod pass;
 pub mod place;
 mod plays;
 pub mod showing;
-#[cfg(test)]
-mod tests;
 
 pub use crate::closed::Closed;
 pub use crate::hall::{Hall, LockOut, NotReady, NotWaiting};

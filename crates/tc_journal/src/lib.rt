@@ -28,8 +28,6 @@ pub mod line;
 pub mod reading;
 pub mod rule;
 mod spelling;
-#[cfg(test)]
-mod tests;
 
 pub use crate::block::{Block, BlockV1, End, Kind};
 pub use crate::history::{merge, text};

@@ -38,8 +38,6 @@ pub mod replay;
 pub mod round_trip;
 pub mod run;
 pub mod status;
-#[cfg(test)]
-mod tests;
 pub mod top;
 mod words;
 mod wrong;

@@ -16,8 +16,6 @@
 pub mod law;
 mod locks;
 pub mod slow;
-#[cfg(test)]
-mod tests;
 pub mod upgrade;
 
 pub use crate::slow::Slow;

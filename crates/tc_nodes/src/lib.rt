@@ -41,6 +41,3 @@ pub use line::{Line, Waiter};
 pub use picks::{Op, run_line};
 pub use queue::{NodeQueue, NodeSeat};
 pub use step::{Entered, LineStep};
-
-#[cfg(test)]
-mod tests;

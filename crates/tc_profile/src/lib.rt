@@ -16,8 +16,6 @@
 pub mod law;
 pub mod profile;
 pub mod tally;
-#[cfg(test)]
-mod tests;
 pub mod text;
 
 pub use crate::law::profiling;

@@ -30,6 +30,3 @@ pub use laws::{line, packing, serving};
 pub use queue::{Queue, QueueSeat};
 pub use turn::{Arrival, Departure, Entered, Leave, QueueCall, Turn};
 pub use waiters::Waiters;
-
-#[cfg(test)]
-mod tests;

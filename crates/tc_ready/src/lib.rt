@@ -22,8 +22,6 @@ mod ends;
 mod law;
 pub mod limits;
 mod ready;
-#[cfg(test)]
-mod tests;
 
 pub use ends::{Log, Offer, Ruled};
 pub use law::{each_once, limit};

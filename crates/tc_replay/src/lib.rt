@@ -25,8 +25,6 @@ pub mod checking;
 pub(crate) mod judge;
 pub mod law;
 pub mod reason;
-#[cfg(test)]
-mod tests;
 
 pub use crate::checker::Checker;
 pub use crate::checking::{Verdict, check, checked};

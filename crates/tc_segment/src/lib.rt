@@ -19,8 +19,6 @@ pub mod packed;
 mod record;
 mod room;
 pub mod state;
-#[cfg(test)]
-mod tests;
 
 pub use crate::entry::Entry;
 pub use crate::state::LockState;

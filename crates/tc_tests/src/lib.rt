@@ -5,7 +5,8 @@
 //! `ran` runs the program over files in memory. `usher` is an observer that holds workers until
 //! others have come so far; `committed` compares its reports with the blocks that were printed.
 //! `gates` tests workers with FIFO queues, `nodes` those on NUMA nodes, `starved` runs out of
-//! memory, and `made` checks the file of the generator's guest.
+//! memory, `made` checks the file of the generator's guest, and `results` the report of the values
+//! that a whole run leaves, and the numbers of the statuses.
 #![tactic(auto)]
 
 #[cfg(test)]
@@ -18,6 +19,8 @@ mod made;
 mod nodes;
 #[cfg(test)]
 mod ran;
+#[cfg(test)]
+mod results;
 #[cfg(test)]
 mod starved;
 #[cfg(test)]

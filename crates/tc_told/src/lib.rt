@@ -23,8 +23,6 @@
 pub mod existence;
 pub mod handover;
 pub mod realization;
-#[cfg(test)]
-mod tests;
 pub mod writer;
 
 pub use crate::writer::Writer;

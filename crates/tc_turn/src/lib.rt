@@ -19,8 +19,6 @@ pub mod number;
 pub mod outcome;
 pub mod own_turns;
 pub mod status;
-#[cfg(test)]
-mod tests;
 pub mod thread;
 pub mod turn_laws;
 

@@ -1,0 +1,150 @@
+//! The generator's files against what other tools write. The words were assembled by GNU Binutils
+//! 2.40 and by LLVM 14, which agree, from text that was written from the description of the guest;
+//! readelf finds the headers and the note of the smallest file as described.
+
+ghost use Rattle.std.specs.Prelude.{◌≤◌};
+ghost use Rattle.tc_build.specs.declared.generate.TheConstants.{MAX_ROUNDS};
+
+use crate::parts::{check_guards, check_ranges, check_threads};
+use std::alloc::{AllocError, Global};
+use std::test::Fail;
+use tc_build::build::{MAX_CODE_WORDS, MAX_FILL, build};
+use tc_build::generate::generate;
+use tc_elf::load::load;
+
+/// The code of one round of each thread.
+const ONE_ROUND: [u32; 54] = [
+    // Thread 0: `lui x5,0x20`.
+    0x000202b7,
+    // lock 0: `addi x10,x0,0`, `addi x17,x0,1`, `ecall`.
+    0x00000513, 0x00100893, 0x00000073,
+    // `lw x7,0(x5)`, `addi x7,x7,1`, `sw x7,0(x5)`.
+    0x0002a383, 0x00138393, 0x0072a023,
+    // unlock 0.
+    0x00000513, 0x00200893, 0x00000073,
+    // `addi x17,x0,93`, `ecall`.
+    0x05d00893, 0x00000073,
+    // Thread 1: lock 1, lock 2.
+    0x000202b7, 0x00100513, 0x00100893, 0x00000073, 0x00200513, 0x00100893, 0x00000073,
+    // `lw x7,20(x5)`, `addi x7,x7,-2`, `sw x7,20(x5)`.
+    0x0142a383, 0xffe38393, 0x0072aa23,
+    // `lw x7,36(x5)`, `addi x7,x7,2`, `sw x7,36(x5)`.
+    0x0242a383, 0x00238393, 0x0272a223,
+    // unlock 1, unlock 2, exit.
+    0x00100513, 0x00200893, 0x00000073, 0x00200513, 0x00200893, 0x00000073, 0x05d00893, 0x00000073,
+    // Thread 2: lock 2.
+    0x000202b7, 0x00200513, 0x00100893, 0x00000073,
+    // `lw x7,32(x5)`, `addi x7,x7,1`, `sw x7,32(x5)`.
+    0x0202a383, 0x00138393, 0x0272a023,
+    // sleep 0, unlock 2, exit.
+    0x00000513, 0x00300893, 0x00000073, 0x00200513, 0x00200893, 0x00000073, 0x05d00893, 0x00000073,
+    // Thread 3: sleep 0, exit.
+    0x000202b7, 0x00000513, 0x00300893, 0x00000073, 0x05d00893, 0x00000073,
+];
+
+/// The FNV-1a checksum of bytes, of 32 bits.
+fn checksum(bytes: &[u8]) -> u32 {
+    let mut sum = 0x811c_9dc5u32;
+    for byte in bytes {
+        sum = (sum ^ u32::from(*byte)).wrapping_mul(0x0100_0193);
+    }
+    sum
+}
+
+#[test]
+fn one_round_is_loaded_as_other_tools_write_it(rt: HostRuntime) -> Result<(), Fail> {
+    let file = generate(rt.alloc(), 1)?;
+    assert_eq!(rt; file.len(), 524);
+    let image = load(rt.alloc(), &file)?;
+    let entries = [
+        (0x0010_0000, 0),
+        (0x0010_0030, 0),
+        (0x0010_0084, 0),
+        (0x0010_00c0, 0),
+    ];
+    check_threads(&rt, &image, &entries);
+    let guards = [
+        (0x0002_0000, 16),
+        (0x0002_0010, 16),
+        (0x0002_0020, 16),
+        (0x0002_0030, 16),
+    ];
+    check_guards(&rt, &image, &guards);
+    check_ranges(&rt, &image, 216, 64);
+    for (i, word) in ONE_ROUND.iter().enumerate() {
+        let pc = 0x0010_0000 + 4 * i as u32;
+        assert_eq!(rt; image.fetch(pc), Some(*word), "at {pc}");
+    }
+    assert!(rt; image.bytes(0x0002_0030, 8) == Some([0, 0, 0, 0, 0xe8, 3, 0, 0].as_slice()));
+    Ok(())
+}
+
+/// The length and the checksum of a file of the generator.
+fn outline(alloc: Global, rounds: u32) -> Result<(usize, u32), AllocError>
+    requires some { 1 ≤ rounds }
+    requires most { rounds ≤ MAX_ROUNDS }
+{
+    let file = generate(alloc, rounds)?;
+    Ok((file.len(), checksum(&file)))
+}
+
+#[test]
+fn files_are_as_other_tools_write_them(rt: HostRuntime) -> Result<(), Fail> {
+    assert_eq!(rt; outline(rt.alloc(), 1)?, (524, 0xe32f_c760));
+    assert_eq!(rt; outline(rt.alloc(), 36)?, (6_404, 0x30f6_7568));
+    assert_eq!(rt; outline(rt.alloc(), 2_000)?, (336_356, 0xd101_612f));
+    Ok(())
+}
+
+#[test]
+fn a_built_file_is_loaded_as_described(rt: HostRuntime) -> Result<(), Fail> {
+    // `addi x17,x0,93` and `ecall`, at which two threads begin.
+    let code = [0x05d0_0893, 0x0000_0073];
+    let entries = [(0x0010_0000, 7), (0x0010_0004, 0xffff_ffff)];
+    let fill = b"abcdefghijklmnopqrstuvwxy".as_slice();
+    let guards = [(0x0002_0000, 4), (0x0002_0004, 8), (0x0002_000c, 12)];
+    let file = build(rt.alloc(), &code, &entries, fill, &guards)?;
+    assert_eq!(rt; file.len(), 253);
+    let image = load(rt.alloc(), &file)?;
+    check_threads(&rt, &image, &entries);
+    check_guards(&rt, &image, &guards);
+    check_ranges(&rt, &image, 8, 25);
+    for (pc, word) in [
+        (0x0010_0000, Some(0x05d0_0893)),
+        (0x0010_0004, Some(0x0000_0073)),
+        (0x0010_0008, None),
+        (0x0002_0000, None),
+    ] {
+        assert_eq!(rt; image.fetch(pc), word, "at {pc}");
+    }
+    for (addr, byte) in [
+        (0x000f_ffff, None),
+        (0x0010_0000, Some(0x93)),
+        (0x0010_0003, Some(0x05)),
+        (0x0010_0004, Some(0x73)),
+        (0x0010_0008, None),
+        (0x0001_ffff, None),
+        (0x0002_0000, Some(b'a')),
+        (0x0002_000c, Some(b'm')),
+        (0x0002_0018, Some(b'y')),
+        (0x0002_0019, None),
+    ] {
+        assert_eq!(rt; image.byte(addr), byte, "at {addr}");
+    }
+    Ok(())
+}
+
+#[test]
+fn builds_up_to_the_limits(rt: HostRuntime) -> Result<(), Fail> {
+    let mut code = Vec::new(rt.alloc());
+    code.resize(200_000, 0x0000_0073)?;
+    assert_eq!(rt; code.len(), MAX_CODE_WORDS);
+    let mut fill = Vec::new(rt.alloc());
+    fill.resize(65_536, b'x')?;
+    assert_eq!(rt; fill.len(), MAX_FILL);
+    let file = build(rt.alloc(), &code, &[(0x001c_34fc, 0)], &fill, &[])?;
+    let image = load(rt.alloc(), &file)?;
+    check_threads(&rt, &image, &[(0x001c_34fc, 0)]);
+    check_ranges(&rt, &image, 800_000, 65_536);
+    Ok(())
+}

@@ -1,0 +1,315 @@
+use crate::parts::{check_guards, check_threads};
+use std::alloc::{AllocError, Global};
+use std::test::Fail;
+use tc_elf::image::Region;
+use tc_elf::limits::MAX_FILE;
+use tc_elf::load::load;
+use tc_elf::refusal::Refusal;
+
+/// A file of one segment: `addi x17,x0,93` and `ecall`, at the address 0x00010054.
+const SMALLEST: [u32; 23] = [
+    0x464c457f, 0x00010101, 0x00000000, 0x00000000, 0x00f30002, 0x00000001, 0x00010054, 0x00000034,
+    0x00000000, 0x00000000, 0x00200034, 0x00000001, 0x00000000, 0x00000001, 0x00000054, 0x00010054,
+    0x00010054, 0x00000008, 0x00000008, 0x00000005, 0x00000004, 0x05d00893, 0x00000073,
+];
+
+/// A file as a linker writes it, with two threads and a guard.
+const LINKED: [u32; 114] = [
+    // The header.
+    0x464c457f, 0x00010101, 0x00000000, 0x00000000, 0x00f30002, 0x00000001, 0x00000000, 0x00000034,
+    0x0000013c, 0x00000000, 0x00200034, 0x00280005, 0x00020003,
+    // A header that is passed over.
+    0x70000003, 0x00000000, 0x00000000, 0x00000000, 0x00000000, 0x00000000, 0x00000004, 0x00000001,
+    // Code, with the headers and the notes before it.
+    0x00000001, 0x00000000, 0x00010000, 0x00010000, 0x00000138, 0x00000138, 0x00000005, 0x00001000,
+    // Data, of which the file has the first 4 bytes.
+    0x00000001, 0x00000138, 0x00020000, 0x00020000, 0x00000004, 0x00000020, 0x00000006, 0x00001000,
+    // A header that is passed over, and that of the notes.
+    0x6474e551, 0x00000000, 0x00000000, 0x00000000, 0x00000000, 0x00000000, 0x00000006, 0x00000010,
+    0x00000004, 0x000000d4, 0x000100d4, 0x000100d4, 0x0000005c, 0x0000005c, 0x00000004, 0x00000004,
+    // A note that is passed over.
+    0x00000004, 0x00000014, 0x00000003, 0x00554e47, 0x11111111, 0x22222222, 0x33333333, 0x44444444,
+    0x55555555,
+    // The note on threads and guards.
+    0x00000008, 0x00000024, 0x00000001, 0x4f4c4354, 0x00534b43, 0x00000001, 0x00000002, 0x00000001,
+    0x00010130, 0x00000007, 0x00010134, 0x00000009, 0x00020010, 0x00000010,
+    // The code and the data.
+    0x05d00893, 0x00000073, 0x0000abcd,
+    // The section headers. The first is of no section.
+    0x00000000, 0x00000000, 0x00000000, 0x00000000, 0x00000000, 0x00000000, 0x00000000, 0x00000000,
+    0x00000000, 0x00000000,
+    // Of the code.
+    0x00000001, 0x00000001, 0x00000006, 0x00010130, 0x00000130, 0x00000008, 0x00000000, 0x00000000,
+    0x00000004, 0x00000000,
+    // Of the names of sections.
+    0x00000007, 0x00000003, 0x00000000, 0x00000000, 0x000001b4, 0x00000011, 0x00000000, 0x00000000,
+    0x00000001, 0x00000000,
+    // The names of sections, with zero bytes between: `.text` and `.shstrtab`.
+    0x65742e00, 0x2e007478, 0x74736873, 0x62617472, 0x00000000,
+];
+
+/// A file of these words, but for the changed ones.
+fn file(alloc: Global, words: &[u32], changes: &[(usize, u32)]) -> Result<Vec<u8>, AllocError> {
+    let mut words = Vec::from_slice(alloc, words)?;
+    for &(at, value) in changes {
+        if at < words.len() {
+            words[at] = value;
+        }
+    }
+    let mut bytes = Vec::new(alloc);
+    for word in &words {
+        bytes.extend_from_slice(&word.to_le_bytes())?;
+    }
+    Ok(bytes)
+}
+
+/// The number of a file's refusal, or 0 if it is loaded.
+fn refused(alloc: Global, bytes: &[u8]) -> u32 {
+    match load(alloc, &bytes[..bytes.len().min(MAX_FILE)]) {
+        Ok(_) => 0,
+        Err(refusal) => refusal.number(),
+    }
+}
+
+#[test]
+fn loads_a_linked_file(rt: HostRuntime) -> Result<(), Fail> {
+    let bytes = file(rt.alloc(), &LINKED, &[])?;
+    assert!(rt; bytes.len() <= MAX_FILE);
+    let image = load(rt.alloc(), &bytes)?;
+    check_threads(&rt, &image, &[(0x10130, 7), (0x10134, 9)]);
+    check_guards(&rt, &image, &[(0x20010, 16)]);
+    assert_eq!(rt; image.ranges(), 2);
+    assert_eq!(rt; image.range(0), (0x10000, 312, false, true));
+    assert_eq!(rt; image.range(1), (0x20000, 32, true, false));
+    for (addr, width, region) in [
+        (0x10134, 4, Region::Text),
+        (0x10138, 1, Region::Nothing),
+        (0x2000c, 4, Region::Private),
+        (0x2000e, 4, Region::Nothing),
+        (0x2001c, 4, Region::Guard(0)),
+        (0x7fff_ffff, 1, Region::Stack),
+        (0x7fff_fffe, 4, Region::Nothing),
+    ] {
+        assert_eq!(rt; image.region(addr, width), region, "at {addr}");
+    }
+    assert_eq!(rt; image.fetch(0x10134), Some(0x73));
+    assert_eq!(rt; image.fetch(0x10136), None);
+    for (addr, byte) in [
+        (0x10000, Some(0x7f)),
+        (0x20001, Some(0xab)),
+        (0x2001f, Some(0)),
+        (0x20020, None),
+    ] {
+        assert_eq!(rt; image.byte(addr), byte, "at {addr}");
+    }
+    for addr in 0x20004..0x20020 {
+        assert_eq!(rt;
+            image.byte(addr),
+            Some(0),
+            "behind the file's bytes, at {addr}"
+        );
+    }
+    assert!(rt; image.bytes(0x20000, 2) == Some([0xcd, 0xab].as_slice()));
+    assert!(rt; image.bytes(0x2001f, 2).is_none());
+    Ok(())
+}
+
+#[test]
+fn refuses_the_smallest_file_changed(rt: HostRuntime) -> Result<(), Fail> {
+    let whole = file(rt.alloc(), &SMALLEST, &[])?;
+    for (length, number) in [(0, 1), (51, 1), (52, 7), (83, 7), (84, 9), (91, 9), (92, 0)] {
+        let count = whole.len().min(length);
+        assert_eq!(rt;
+            refused(rt.alloc(), &whole[..count]),
+            number,
+            "the first {length} bytes"
+        );
+    }
+    let cases = [
+        (0, 0x464c4500, 2),
+        (1, 0x00010102, 3),
+        (1, 0x00010201, 3),
+        (1, 0x00020101, 3),
+        (4, 0x00f30003, 4),
+        (4, 0x003e0002, 5),
+        (9, 1, 6),
+        (9, 2, 6),
+        (9, 4, 6),
+        (9, 8, 6),
+        (9, 16, 0),
+        (5, 2, 7),
+        (7, 0xffff_ffe0, 7),
+        (10, 0x00280034, 7),
+        (11, 0, 7),
+        (13, 2, 8),
+        (13, 3, 8),
+        (13, 7, 8),
+        (17, 9, 9),
+        (15, 0x7fff_c000, 10),
+        (19, 7, 11),
+        (6, 0x10055, 13),
+        (6, 0x1005c, 13),
+        (13, 4, 13),
+        (19, 4, 13),
+    ];
+    for (at, value, number) in cases {
+        let bytes = file(rt.alloc(), &SMALLEST, &[(at, value)])?;
+        assert_eq!(rt; refused(rt.alloc(), &bytes), number, "word {at} is {value}");
+    }
+    assert_eq!(rt; Refusal::WritableCode.name(), "WritableCode");
+    Ok(())
+}
+
+#[test]
+fn refuses_the_linked_file_changed(rt: HostRuntime) -> Result<(), Fail> {
+    let cases = [
+        // Code past the file's end, too much memory, data that is longer in the file, and data past
+        // the last address.
+        (22, 0xffff_ffff, 9),
+        (26, 0x0010_0000, 9),
+        (34, 0, 9),
+        (31, 0xffff_ffe4, 9),
+        // Data over the last byte of the code, and over the first of the stack.
+        (31, 0x0001_0137, 10),
+        (31, 0x7fff_bfe1, 10),
+        // Data that touch these, or the last address: only the guard is elsewhere.
+        (31, 0x0001_0138, 14),
+        (31, 0x7fff_bfe0, 14),
+        (31, 0xffff_ffe0, 14),
+        // Notes past the file's end; a name or a descriptor past the segment's.
+        (46, 0xffff_fff0, 12),
+        (49, 91, 12),
+        (53, 0x50, 12),
+        (53, 0xffff_fffd, 12),
+        (54, 0xffff_fffd, 12),
+        // The descriptor's version, its numbers of threads and guards, and its length.
+        (67, 0, 12),
+        (67, 2, 0),
+        (67, 3, 12),
+        (68, 0, 12),
+        (69, 0, 12),
+        (63, 0x20, 12),
+        // A note of another name or type is passed over, so that the file's own entry counts.
+        (62, 7, 13),
+        (64, 2, 13),
+        // Entries in the data, at an odd place, behind the code.
+        (70, 0x0002_0000, 13),
+        (72, 0x0001_0132, 13),
+        (72, 0x0001_0138, 13),
+        // Guards at an odd place, of an odd length, past the data, in the code.
+        (74, 0x0002_0012, 14),
+        (75, 6, 14),
+        (74, 0x0002_0014, 14),
+        (74, 0x0001_0000, 14),
+    ];
+    for (at, value, number) in cases {
+        let bytes = file(rt.alloc(), &LINKED, &[(at, value)])?;
+        assert_eq!(rt; refused(rt.alloc(), &bytes), number, "word {at} is {value}");
+    }
+    Ok(())
+}
+
+#[test]
+fn refuses_by_several_changes(rt: HostRuntime) -> Result<(), Fail> {
+    let same = (0, LINKED[0]);
+    let cases = [
+        // Sizes whose sum is 2 ^ 32.
+        ([(26, 0x8000_0000), (34, 0x8000_0000), same, same], 9),
+        // A segment without memory: in the code, with the flags of writable code, past the file.
+        ([(37, 1), (39, 0x10010), same, same], 0),
+        ([(37, 1), (43, 7), same, same], 0),
+        ([(37, 1), (38, 0x1c9), same, same], 9),
+        // No notes, at the file's end and past it.
+        ([(37, 4), (38, 0x1c8), same, same], 0),
+        ([(37, 4), (38, 0x1c9), same, same], 12),
+        // The note on threads and guards twice.
+        ([(37, 4), (38, 0xd4), (41, 92), same], 12),
+        // Fewer bytes than a note's header are left over; just a header is a note.
+        ([(49, 47), (6, 0x10130), same, same], 0),
+        ([(49, 48), (6, 0x10130), same, same], 12),
+        // No guard; two guards that touch, and two that share an address.
+        ([(69, 0), (63, 28), same, same], 0),
+        ([(68, 1), (69, 2), (72, 0x2000c), (73, 4)], 0),
+        ([(68, 1), (69, 2), (72, 0x2000c), (73, 8)], 14),
+    ];
+    for (changes, number) in cases {
+        let bytes = file(rt.alloc(), &LINKED, &changes)?;
+        let (at, value) = changes[0];
+        assert_eq!(rt; refused(rt.alloc(), &bytes), number, "word {at} is {value}");
+    }
+    Ok(())
+}
+
+/// A program header: its type, its flags, its part of the file, its address and its size in memory.
+fn program_header(kind: u32, flags: u32, part: (u32, u32), addr: u32, memory: u32) -> [u32; 8] {
+    let (offset, size) = part;
+    [kind, offset, addr, addr, size, memory, flags, 4]
+}
+
+/// How much a file has of what is limited: program headers, bytes of memory, threads, guards, and
+/// bytes of each guard. Before these the version of its note.
+type Amounts = (u32, u32, u32, u32, u32, u32);
+
+/// A file of these amounts. It has a note, two words of code at 0x00010000, data from 0x00020000
+/// on of which the file has no bytes, and headers that are passed over. Guards are 8 bytes apart.
+fn file_with(alloc: Global, amounts: Amounts) -> Result<Vec<u8>, AllocError> {
+    let (version, headers, memory, threads, guards, length) = amounts;
+    let pairs = threads.wrapping_add(guards).wrapping_mul(8);
+    let note = headers.wrapping_mul(32).wrapping_add(52);
+    let note_size = pairs.wrapping_add(32);
+    let code = note.wrapping_add(note_size);
+    let mut words = Vec::from_slice(alloc, &SMALLEST[..11])?;
+    words.extend_from_slice(&[headers, 0])?;
+    words.extend_from_slice(&program_header(4, 4, (note, note_size), 0, 0))?;
+    words.extend_from_slice(&program_header(1, 5, (code, 8), 0x1_0000, 8))?;
+    words.extend_from_slice(&program_header(1, 6, (0, 0), 0x2_0000, memory.wrapping_sub(8)))?;
+    for _ in 3..headers {
+        words.extend_from_slice(&program_header(0x6474_e551, 6, (0, 0), 0, 0))?;
+    }
+    words.extend_from_slice(&[8, pairs.wrapping_add(12), 1, 0x4f4c_4354, 0x0053_4b43])?;
+    words.extend_from_slice(&[version, threads, guards])?;
+    for _ in 0..threads {
+        words.extend_from_slice(&[0x1_0000, 0])?;
+    }
+    for lock in 0..guards {
+        words.extend_from_slice(&[lock.wrapping_mul(8).wrapping_add(0x2_0000), length])?;
+    }
+    words.extend_from_slice(&[0x05d0_0893, 0x73])?;
+    file(alloc, &words, &[])
+}
+
+#[test]
+fn loads_up_to_the_limits(rt: HostRuntime) -> Result<(), Fail> {
+    let cases = [
+        ((1, 16, 66_000, 1, 0, 0), 0),
+        ((1, 17, 66_000, 1, 0, 0), 7),
+        ((1, 3, 1_048_576, 1, 0, 0), 0),
+        ((1, 3, 1_048_577, 1, 0, 0), 9),
+        ((1, 3, 66_000, 16, 16, 4), 0),
+        ((1, 3, 66_000, 17, 16, 4), 12),
+        ((1, 3, 66_000, 16, 17, 4), 12),
+        ((2, 3, 66_000, 1, 0, 0), 0),
+        ((2, 3, 66_000, 32, 32, 4), 0),
+        ((2, 3, 66_000, 33, 32, 4), 12),
+        ((2, 3, 66_000, 32, 33, 4), 12),
+        ((2, 3, 66_000, 0, 32, 4), 12),
+        ((1, 3, 66_000, 1, 1, 0), 14),
+        ((1, 3, 66_000, 1, 1, 65_536), 0),
+        ((1, 3, 66_000, 1, 1, 65_540), 14),
+    ];
+    for (amounts, number) in cases {
+        let bytes = file_with(rt.alloc(), amounts)?;
+        assert_eq!(rt; refused(rt.alloc(), &bytes), number, "{amounts:?}");
+    }
+    Ok(())
+}
+
+#[test]
+fn loads_the_longest_file(rt: HostRuntime) -> Result<(), Fail> {
+    let mut bytes = file(rt.alloc(), &SMALLEST, &[])?;
+    bytes.resize(1_048_576, 0)?;
+    assert_eq!(rt; bytes.len(), MAX_FILE);
+    let image = load(rt.alloc(), &bytes)?;
+    assert_eq!(rt; image.ranges(), 1);
+    Ok(())
+}

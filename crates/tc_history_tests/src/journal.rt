@@ -1,0 +1,268 @@
+ghost use Rattle.std.specs.Prelude.{◌≡◌};
+
+use std::test::Fail;
+use tc_isa::fault::Fault;
+use tc_isa::held::Held;
+use tc_journal::batch::{may_adopt, may_begin, passes_to, run_after};
+use tc_journal::block::{Block, BlockV1, End, Kind};
+use tc_journal::history::{merge, text};
+use tc_journal::reading::{BadText, read, read_v1};
+use tc_journal::rule::{Outcome, end_of};
+
+/// The history of two threads that each take one lock once.
+fn two_threads() -> [Block; 6] {
+    let none = Held::none();
+    let lock = none.plus(0);
+    let end = End::Unlocked(0);
+    [
+        block(0, 0, 3, none, Kind::Start, 0, 0x0010_0000, End::Wants(0)),
+        block(1, 0, 7, lock, Kind::Taken, 0, 0x0010_000c, end),
+        block(2, 1, 3, none, Kind::Start, 1, 0x0010_0000, End::Wants(0)),
+        block(3, 1, 7, lock, Kind::Adopted, 0, 0x0010_000c, end),
+        block(4, 0, 2, none, Kind::On, 0, 0x0010_0028, End::Exit),
+        block(5, 1, 2, none, Kind::On, 1, 0x0010_0028, End::Exit),
+    ]
+}
+
+fn block(
+    stamp: u64,
+    thread: u32,
+    turns: u32,
+    held: Held,
+    kind: Kind,
+    worker: u32,
+    pc: u32,
+    end: End,
+) -> Block
+    ensures { result.stamp ≡ stamp }
+{
+    Block {
+        stamp,
+        thread,
+        turns,
+        held,
+        kind,
+        worker,
+        pc,
+        end,
+    }
+}
+
+const TWO_THREADS: &str = "\
+block 0 thread 0 turns 3 held - kind start worker 0 pc 00100000 end wants 0
+block 1 thread 0 turns 7 held 0 kind taken worker 0 pc 0010000c end unlocked 0
+block 2 thread 1 turns 3 held - kind start worker 1 pc 00100000 end wants 0
+block 3 thread 1 turns 7 held 0 kind adopted worker 0 pc 0010000c end unlocked 0
+block 4 thread 0 turns 2 held - kind on worker 0 pc 00100028 end exit
+block 5 thread 1 turns 2 held - kind on worker 1 pc 00100028 end exit
+";
+
+#[test]
+fn a_history_is_printed_and_read_back(rt: HostRuntime) -> Result<(), Fail> {
+    let history = two_threads();
+    let printed = text(rt.alloc(), &history)?;
+    assert_eq!(rt; printed.as_slice(), TWO_THREADS.as_bytes());
+    let blocks = read(rt.alloc(), &printed)?;
+    assert_eq!(rt; blocks.as_slice(), history.as_slice());
+    Ok(())
+}
+
+#[test]
+fn logs_are_merged_by_their_stamps(rt: HostRuntime) -> Result<(), Fail> {
+    let none = Held::none();
+    let zero = block(0, 1, 1, none, Kind::Start, 0, 0, End::Slept);
+    let one = block(1, 0, 2, none, Kind::Start, 1, 0, End::Exit);
+    let two = block(2, 1, 3, none, Kind::On, 0, 4, End::Exit);
+    let mut logs = Vec::new(rt.alloc());
+    logs.push(Vec::from_slice(rt.alloc(), &[zero, two])?)?;
+    logs.push(Vec::from_slice(rt.alloc(), &[one])?)?;
+    let history = merge(rt.alloc(), &logs)?;
+    assert_eq!(rt; history.as_slice(), [zero, one, two].as_slice());
+    Ok(())
+}
+
+#[test]
+fn blocks_end_by_the_first_rule_that_holds(rt: HostRuntime) {
+    let fault = Fault::Break;
+    let cases = [
+        (Outcome::Went, 1, None, None),
+        (Outcome::Went, 4095, None, None),
+        (Outcome::Went, 4096, None, Some(End::Cut)),
+        (Outcome::Went, 4096, Some(3), Some(End::Wants(3))),
+        (Outcome::Went, 1, Some(0), Some(End::Wants(0))),
+        (Outcome::Unlocked(2), 4096, Some(3), Some(End::Unlocked(2))),
+        (Outcome::Slept, 4096, Some(3), Some(End::Slept)),
+        (Outcome::Exited, 4096, None, Some(End::Exit)),
+        (Outcome::Spent, 4096, None, Some(End::Spent)),
+        (Outcome::Faulted(fault), 4096, None, Some(End::Fault(fault))),
+    ];
+    for (outcome, turns, next, want) in cases {
+        let end = end_of(outcome, turns, next);
+        assert_eq!(rt; end, want, "{outcome:?}, {turns} turns");
+    }
+}
+
+#[test]
+fn each_kind_and_each_end_is_read_back(rt: HostRuntime) -> Result<(), Fail> {
+    let lines = b"\
+block 0 thread 4294967295 turns 4096 held 0,1,9,10,31 kind granted worker 4294967295 pc ffffffff end cut
+block 1 thread 15 turns 1 held 31 kind adopted worker 7 pc 00000000 end wants 31
+block 2 thread 2 turns 10 held - kind taken worker 0 pc 00100004 end unlocked 10
+block 3 thread 0 turns 4095 held 2,3,5,7,11,13,17,19 kind start worker 1 pc 0123abcd end slept
+block 4 thread 0 turns 99 held - kind on worker 1 pc 89ef4567 end fault 1
+block 5 thread 0 turns 100 held - kind on worker 1 pc 0a0b0c0d end fault 12
+block 6 thread 0 turns 1000 held - kind on worker 1 pc 00f0e0d0 end spent
+";
+    let blocks = read(rt.alloc(), lines)?;
+    let printed = text(rt.alloc(), &blocks)?;
+    assert_eq!(rt; printed.as_slice(), lines.as_slice());
+    let none = Held::none();
+    let last = block(6, 0, 1000, none, Kind::On, 1, 0x00f0_e0d0, End::Spent);
+    assert_eq!(rt; blocks.last().copied(), Some(last));
+    Ok(())
+}
+
+/// Texts of one line that is right.
+const RIGHT: [&str; 9] = [
+    "block 0 thread 0 turns 2 held - kind start worker 0 pc 00100004 end exit\n",
+    "block 0 thread 4294967295 turns 2 held - kind start worker 0 pc 00100004 end exit\n",
+    "block 0 thread 0 turns 1 held - kind start worker 0 pc 00100004 end exit\n",
+    "block 0 thread 0 turns 4096 held - kind start worker 0 pc 00100004 end exit\n",
+    "block 0 thread 0 turns 2 held 31 kind start worker 0 pc 00100004 end exit\n",
+    "block 0 thread 0 turns 2 held 0,1,2,3,4,5 kind start worker 0 pc 00100004 end exit\n",
+    "block 0 thread 0 turns 2 held - kind start worker 4294967295 pc 00100004 end exit\n",
+    "block 0 thread 0 turns 2 held - kind start worker 0 pc 00100004 end wants 31\n",
+    "block 0 thread 0 turns 2 held - kind start worker 0 pc 00100004 end fault 12\n",
+];
+
+/// Texts whose first line is wrong.
+const WRONG: [&str; 36] = [
+    // Other spaces, ends of line or letters than a block's.
+    "\n",
+    "block 0 thread 0 turns 2 held - kind start worker 0 pc 00100004 end exit",
+    "block 0 thread 0 turns 2 held - kind start worker 0 pc 00100004 end exit\r\n",
+    "block 0 thread 0 turns 2 held - kind start worker 0 pc 00100004 end exit \n",
+    " block 0 thread 0 turns 2 held - kind start worker 0 pc 00100004 end exit\n",
+    "block 0 thread 0  turns 2 held - kind start worker 0 pc 00100004 end exit\n",
+    // A number that is spelled otherwise, out of range or not the stamp.
+    "block 1 thread 0 turns 2 held - kind start worker 0 pc 00100004 end exit\n",
+    "block 00 thread 0 turns 2 held - kind start worker 0 pc 00100004 end exit\n",
+    "block +0 thread 0 turns 2 held - kind start worker 0 pc 00100004 end exit\n",
+    "block 18446744073709551616 thread 0 turns 2 held - kind on worker 0 pc 00100004 end exit\n",
+    "block 0 thread 01 turns 2 held - kind start worker 0 pc 00100004 end exit\n",
+    "block 0 thread 4294967296 turns 2 held - kind start worker 0 pc 00100004 end exit\n",
+    "block 0 thread 0 turns 0 held - kind start worker 0 pc 00100004 end exit\n",
+    "block 0 thread 0 turns 4097 held - kind start worker 0 pc 00100004 end exit\n",
+    "block 0 thread 0 turns 2 held - kind start worker 4294967296 pc 00100004 end exit\n",
+    // No pc, or one that is spelled otherwise.
+    "block 0 thread 0 turns 2 held - kind start worker 0 end exit\n",
+    "block 0 thread 0 turns 2 held - kind start worker 0 pc 0010004 end exit\n",
+    "block 0 thread 0 turns 2 held - kind start worker 0 pc 000100004 end exit\n",
+    "block 0 thread 0 turns 2 held - kind start worker 0 pc 0010000A end exit\n",
+    "block 0 thread 0 turns 2 held - kind start worker 0 pc 0010000g end exit\n",
+    "block 0 thread 0 turns 2 held - kind start worker 0 pc end exit\n",
+    "block 0 thread 0 turns 2 held - kind start pc 00100004 worker 0 end exit\n",
+    // Held locks that are none, or are not in ascending order.
+    "block 0 thread 0 turns 2 held 32 kind start worker 0 pc 00100004 end exit\n",
+    "block 0 thread 0 turns 2 held 1,0 kind start worker 0 pc 00100004 end exit\n",
+    "block 0 thread 0 turns 2 held 1,1 kind start worker 0 pc 00100004 end exit\n",
+    "block 0 thread 0 turns 2 held 0,1, kind start worker 0 pc 00100004 end exit\n",
+    "block 0 thread 0 turns 2 held  kind start worker 0 pc 00100004 end exit\n",
+    // A word, a kind or an end that is none.
+    "Block 0 thread 0 turns 2 held - kind start worker 0 pc 00100004 end exit\n",
+    "block 0 thread 0 turns 2 held - kind lent worker 0 pc 00100004 end exit\n",
+    "block 0 thread 0 turns 2 held - kind start worker 0 pc 00100004 end wants 32\n",
+    "block 0 thread 0 turns 2 held - kind start worker 0 pc 00100004 end unlocked 32\n",
+    "block 0 thread 0 turns 2 held - kind start worker 0 pc 00100004 end wants\n",
+    "block 0 thread 0 turns 2 held - kind start worker 0 pc 00100004 end fault 0\n",
+    "block 0 thread 0 turns 2 held - kind start worker 0 pc 00100004 end fault 13\n",
+    "block 0 thread 0 turns 2 held - kind start worker 0 pc 00100004 end exit 0\n",
+    "block 0 thread 0 turns 2 held - kind start worker 0 pc 00100004 end done\n",
+];
+
+#[test]
+fn one_right_line_is_read(rt: HostRuntime) -> Result<(), Fail> {
+    for line in RIGHT {
+        assert_eq!(rt; read(rt.alloc(), line.as_bytes())?.len(), 1, "{line}");
+    }
+    assert_eq!(rt; read(rt.alloc(), b"")?.len(), 0);
+    Ok(())
+}
+
+#[test]
+fn a_wrong_first_line_is_named(rt: HostRuntime) {
+    for line in WRONG {
+        let found = read(rt.alloc(), line.as_bytes()).err();
+        assert_eq!(rt; found, Some(BadText::Line(1)), "{line}");
+    }
+}
+
+#[test]
+fn a_wrong_second_line_is_named(rt: HostRuntime) -> Result<(), Fail> {
+    let empty = "block 0 thread 0 turns 2 held - kind start worker 0 pc 00100004 end exit\n\n";
+    let found = read(rt.alloc(), empty.as_bytes()).err();
+    assert_eq!(rt; found, Some(BadText::Line(2)));
+    let wrong = TWO_THREADS.replace(rt.alloc(), "block 1 ", "block 2 ")?;
+    let found = read(rt.alloc(), wrong.as_bytes()).err();
+    assert_eq!(rt; found, Some(BadText::Line(2)));
+    Ok(())
+}
+
+/// The line of a block before lines had a pc.
+const OLD_LINE: &str = "block 0 thread 0 turns 2 held - kind start worker 0 end exit\n";
+
+/// An old text is read by its own reading alone, and names its first wrong line in the same way.
+#[test]
+fn an_old_text_is_read(rt: HostRuntime) -> Result<(), Fail> {
+    let old = BlockV1 {
+        stamp: 0,
+        thread: 0,
+        turns: 2,
+        held: Held::none(),
+        kind: Kind::Start,
+        worker: 0,
+        end: End::Exit,
+    };
+    let blocks = read_v1(rt.alloc(), OLD_LINE.as_bytes())?;
+    assert_eq!(rt; blocks.as_slice(), [old].as_slice());
+    for line in ["\n", OLD_LINE] {
+        let text = format!(in rt.alloc(); "{OLD_LINE}{line}")?;
+        let found = read_v1(rt.alloc(), text.as_bytes()).err();
+        assert_eq!(rt; found, Some(BadText::Line(2)), "{line}");
+    }
+    let found = read_v1(rt.alloc(), TWO_THREADS.as_bytes()).err();
+    assert_eq!(rt; found, Some(BadText::Line(1)));
+    Ok(())
+}
+
+/// A guest's lock 3 is released; then a waiter may be adopted by the same worker alone, or, where
+/// the streak is at the limit, granted to each.
+#[test]
+fn a_section_follows_by_the_batch_rule(rt: HostRuntime) {
+    let held = Held::none().plus(3);
+    let last = block(4, 1, 9, held, Kind::Adopted, 2, 0, End::Unlocked(3));
+    assert!(rt; last.begins(3));
+    assert!(rt; last.takes() == Some(3));
+    assert_eq!(rt; run_after(3, 0, &last), 1);
+    assert!(rt; last.ends_section(3));
+    assert!(rt; !last.ends_section(4));
+    for (run, kind, worker, want) in [
+        (1, Kind::Adopted, 2, true),
+        (1, Kind::Adopted, 0, false),
+        (1, Kind::Granted, 0, false),
+        (1, Kind::Taken, 0, true),
+        (2, Kind::Adopted, 2, false),
+        (2, Kind::Granted, 0, true),
+        (2, Kind::On, 2, false),
+    ] {
+        assert!(rt; may_adopt(&last, 3, run, 2) == (run < 2));
+        let may = may_begin(3, 2, Some(last), run, kind, worker);
+        assert!(rt; may == want, "{kind:?} {worker}");
+    }
+    // A thread may take the lock again, but is not adopted after itself.
+    assert!(rt; passes_to(Some(last), Kind::Taken, 1));
+    assert!(rt; !passes_to(Some(last), Kind::Adopted, 1));
+    assert!(rt; passes_to(Some(last), Kind::Adopted, 0));
+    assert!(rt; may_begin(3, 2, None, 0, Kind::Taken, 0));
+    assert!(rt; !may_begin(3, 2, None, 0, Kind::Granted, 0));
+}

@@ -1,0 +1,15 @@
+//! Tests of the abstract machines, on public calls alone.
+//!
+//! `mutex_spec` runs the mutex machine, and upgrades old histories. `core` performs events of the
+//! delegation machine and compares the places of threads and locks. `told` compares what the events
+//! write. `guests` has their guests, as words.
+#![tactic(auto)]
+
+#[cfg(test)]
+mod core;
+#[cfg(test)]
+mod guests;
+#[cfg(test)]
+mod mutex_spec;
+#[cfg(test)]
+mod told;

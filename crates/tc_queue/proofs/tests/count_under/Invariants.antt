@@ -1,5 +1,0 @@
-use Rattle.tc_queue.specs.Lines.{IsSeatOf}
-use Rattle.tc_queue.proofs.tests.count_under.Given as goal
-
-abbrev pub invariant-loop-number : goal.invariant-loop-number
-invariant-loop-number g l = IsSeatOf (g.Q.Waiters.queue l.queue) (g.Q.Waiters.seen l.seat)
