@@ -1,11 +1,13 @@
 -- The logs of all packages, merged, are the history.
 use Rattle.std.proofs.Common.{◌≡◌, ℕ, zero, suc, ◌+◌, ◌<◌, ◌==◌, Bool, true, false, not, cond, List, [], ◌∷◌, ◌++◌, length, map, filter, get_or, refl, sym, ap, ◌∙◌, subst, inl, inr, append_assoc, append-nil, add-zero, arith, Bor}
-use Rattle.std.specs.Prelude.{Contains, nat_lt}
+use Rattle.std.specs.Prelude.{All, Contains, nat_lt}
 use Rattle.std.specs.List.{flat_map, range_with_len}
-use Rattle.std.specs.List.Sorted.{IsPermutation}
+use Rattle.std.specs.List.Sorted.{IsNonDecreasingBy, IsPermutation}
 use Rattle.std.proofs.lemmas.Bool.{lt-ltb, le-ltb, cases_lt}
 use Rattle.std.proofs.lemmas.Bool.Decides.{eqb_tells}
-use Rattle.std.proofs.lemmas.List.{length-map}
+use Rattle.std.proofs.lemmas.List.{get_or-map, length-map}
+use Rattle.std.proofs.lemmas.List.Elements.{All-map}
+use Rattle.std.proofs.lemmas.List.Kept.{IsNonDecreasingBy-filter}
 use Rattle.std.proofs.lemmas.List.Folds.{flat_map-map}
 use Rattle.std.proofs.lemmas.List.FromFn.{get_or-range_with_len}
 use Rattle.std.proofs.lemmas.List.Sorted.{IsPermutation-refl, IsPermutation-sym, IsPermutation-trans, IsPermutation-map, IsPermutation-cons, IsPermutation-middle, IsPermutation-append_right, Contains-permutation, length_permutation}
@@ -24,7 +26,8 @@ use Rattle.tc_mutex_spec.proofs.ListLaws.{there, same_list}
 use Rattle.tc_mutex_spec.proofs.Histories.{stamp_at, thread_at}
 use Rattle.tc_report.specs.Outcome.{log_in, logs_of}
 use Rattle.tc_report.proofs.Ranges.{by_number}
-use Rattle.tc_lemmas.proofs.Lists.{something_at}
+use Rattle.tc_report.specs.Logs.{Rises}
+use Rattle.tc_lemmas.proofs.Lists.{at_itself, something_at}
 
 -- ---- lists in parts
 
@@ -122,6 +125,14 @@ lent logs packages same =
     ∙ ap (flat_map (λ (l : List Block). l)) same
     ∙ flat_map-map (λ (l : List Block). l) log_in packages
 
+-- where the stamps of all logs of the packages rise, those of the lent logs do
+pub lent_rise : (logs : List (Bor (List Block))) (packages : List PackageView) → map (λ (log : Bor (List Block)). log.now) logs ≡ map log_in packages → All (λ (p : PackageView). IsNonDecreasingBy (λ (b : Block). b.stamp) (log_in p)) packages → All Rises logs
+lent_rise logs packages same all k d low =
+    let now : Bor (List Block) → List Block = λ log. log.now in
+    let up : List Block → Type 0 = IsNonDecreasingBy (λ (b : Block). b.stamp) in
+    let each : All up (map now logs) = subst (All up) (sym same) (All-map up log_in packages all) in
+    subst up (get_or-map now logs k d d.now low) (each k d.now (omega (arith, low, length-map logs now)))
+
 module _ (image : Shown) (fuel limit : ℕ) (h : List Block) (packages : List PackageView) (states : List LockView) (law : Lawful image fuel limit h (map bare packages) states) where
   count : length packages ≡ length image.entries
   count = sym (length-map packages bare) ∙ law.all_packages
@@ -144,6 +155,20 @@ module _ (image : Shown) (fuel limit : ℕ) (h : List Block) (packages : List Pa
 
   stamp_is : (i : ℕ) (b : Block) → get_elem? h i ≡ some b → b.stamp ≡ i
   stamp_is i b e = omega (arith, stamp_at 0 h i b law.history e)
+
+  -- the stamps of its blocks rise, and so do those of each log, which has some of them
+  rises : IsNonDecreasingBy (λ (b : Block). b.stamp) h
+  rises i j d le low = omega (arith, stamp_is i (get_or h i d) (at_itself h i d (omega (arith, le, low))), stamp_is j (get_or h j d) (at_itself h j d low), le)
+
+  pub logs_rise : All (λ (p : PackageView). IsNonDecreasingBy (λ (b : Block). b.stamp) (log_in p)) packages
+  logs_rise k d low =
+      let p = get_or packages k d in
+      let log : log_in p ≡ of_thread h k = (law.packages_after k (bare p) (at_map bare packages k p (at_itself packages k d low))).follows.log in
+      subst (IsNonDecreasingBy (λ (b : Block). b.stamp)) (sym log) (IsNonDecreasingBy-filter (λ (b : Block). b.stamp) (λ b. b.thread == k) h rises)
+
+  -- and the logs have as many
+  pub as_many : length (logs_of packages) ≡ length h
+  as_many = length_permutation h (logs_of packages) shared_out
 
   pub each_stamp : HasEachStamp (logs_of packages)
   each_stamp stamp lt =
@@ -170,5 +195,5 @@ module _ (image : Shown) (fuel limit : ℕ) (h : List Block) (packages : List Pa
         let place : c.0 ≡ i = sym (place_of g order c.0 b there) ∙ stamp_is i b e in
         ap (get_elem? g) (sym place) ∙ there
 
-    pub merged : g ≡ h
-    merged = same_list g h in_history in_merged
+    pub one_history : g ≡ h
+    one_history = same_list g h in_history in_merged

@@ -1,5 +1,5 @@
 -- The merged logs of a whole run are its history.
-use Rattle.std.proofs.Common.{◌≡◌, ◌<◌, ◌^◌, ◌++◌, ℕ, List, length, map, sym, ◌∙◌, subst}
+use Rattle.std.proofs.Common.{◌≡◌, ◌<◌, ◌^◌, ◌++◌, ℕ, List, Bor, length, map, refl, sym, ap, ◌∙◌, subst, arith}
 use Rattle.std.specs.Prelude.{All}
 use Rattle.std.specs.List.Sorted.{IsPermutation}
 use Rattle.tc_isa.specs.declared.options.Options.{Options}
@@ -15,12 +15,14 @@ use Rattle.tc_mutex_spec.specs.Blocks.{end_after}
 use Rattle.tc_hall.specs.PassView.{ClosedView}
 use Rattle.tc_workers.specs.Run.{IsWholeRun}
 use Rattle.tc_report.specs.Legal.{IsLegalRun, results_after}
-use Rattle.tc_report.specs.Outcome.{IsOutcome, logs_of}
+use Rattle.tc_report.specs.Logs.{AreLogs, blocks_in, merged}
+use Rattle.tc_report.specs.Outcome.{IsOutcome, log_in, logs_of}
 use Rattle.tc_report.specs.Report.{head_text, tail_text}
 use Rattle.tc_main.specs.Accepted.{CanAllBeAdded}
 use Rattle.tc_main.specs.Top.{IsReportOf}
 use Rattle.tc_main.proofs.Addable.{addable}
-use Rattle.tc_main.proofs.Merging.{each_stamp, merged}
+use Rattle.tc_journal.proofs.Merged.{placed_all}
+use Rattle.tc_main.proofs.Merging.{as_many, each_stamp, lent, lent_rise, logs_rise, one_history}
 use Rattle.tc_report.proofs.Outcomes.{outcome, legal, told}
 
 module _ (image : Shown) (o : Options) (closed : ClosedView) (run : IsWholeRun image o closed) (packages : List PackageView) (states : List LockView) (all : packages ≡ closed.packages) (all_states : states ≡ closed.locks) where
@@ -30,9 +32,26 @@ module _ (image : Shown) (o : Options) (closed : ClosedView) (run : IsWholeRun i
   pub stamps : HasEachStamp (logs_of packages)
   stamps = each_stamp image o.fuel o.limit run.history packages (map kept states) law
 
+  -- the logs that are lent have it in parts
+  module _ (logs : List (Bor (List Block))) (same : map (λ (log : Bor (List Block)). log.now) logs ≡ map log_in packages) where
+    all_lent : blocks_in logs ≡ logs_of packages
+    all_lent = lent logs packages same
+
+    pub logs_are : IsLimited image o.fuel → AreLogs logs
+    logs_are limits = record {
+      stamps = subst HasEachStamp (sym all_lent) stamps;
+      rise = lent_rise logs packages same (logs_rise image o.fuel o.limit run.history packages (map kept states) law);
+      few = omega (arith, ap (λ (bs : List Block). length bs) all_lent, as_many image o.fuel o.limit run.history packages (map kept states) law, short_history image o.fuel o.limit run.history (map bare packages) (map kept states) limits law);
+    }
+
+    pub merged_are : IsPermutation (logs_of packages) (merged logs) × IsInOrder (merged logs)
+    merged_are =
+        let all : IsPermutation (blocks_in logs) (merged logs) × IsInOrder (merged logs) = placed_all (blocks_in logs) (blocks_in logs) (subst HasEachStamp (sym all_lent) stamps) refl in
+        (subst (λ bs. IsPermutation bs (merged logs)) all_lent all.0, all.1)
+
   module _ (g : List Block) (blocks : IsPermutation (logs_of packages) g) (order : IsInOrder g) where
     same : run.history ≡ g
-    same = sym (merged image o.fuel o.limit run.history packages (map kept states) law g blocks order)
+    same = sym (one_history image o.fuel o.limit run.history packages (map kept states) law g blocks order)
 
     pub outcome_is : IsOutcome image o.fuel g packages states
     outcome_is = subst (λ h. IsOutcome image o.fuel h packages states) same (outcome image o run.history packages states law run.complete)

@@ -23,7 +23,7 @@ use tc_hall::closed::Closed;
 use tc_io::Sink;
 use tc_isa::options::Options;
 use tc_journal::block::Block;
-use tc_journal::history::{in_order, merge_lent};
+use tc_journal::history::merge_lent;
 use tc_queue::Waiters;
 use tc_report::report::{tail_of, write_report};
 use tc_report::written::Written;
@@ -60,17 +60,6 @@ fn history_of(alloc: Global, packages: &[Package]) -> Result<Vec<Block>, AllocEr
 {
     let logs = logs_in(alloc, packages)?;
     merge_lent(alloc, &logs)
-}
-
-/// The blocks of all packages, borrowed, in the order of their stamps.
-fn history_in(alloc: Global, packages: &[Package]) -> Result<Vec<&Block>, AllocError>
-    requires { HasEachStamp (logs_of packages.now) }
-    ensures blocks { IfOk result (λ history.
-        IsPermutation (logs_of packages.now) (map (λ b. b.now) history.items)) }
-    ensures order { IfOk result (λ history. IsInOrder (map (λ b. b.now) history.items)) }
-{
-    let logs = logs_in(alloc, packages)?;
-    in_order(alloc, &logs)
 }
 
 /// The parameters of a run: how its workers wait, which queues stand for `Order::Entry`, and
@@ -156,8 +145,8 @@ where
 
 /// Runs the guest, and writes the report of the run, made of the hall after all workers have ended.
 /// The final threads and locks are printed first, so that the lock states with their journals are
-/// dropped before the blocks are sorted. The packages stay until the report is written: the blocks
-/// are read in their logs, and are not copied.
+/// dropped before the blocks are put in order. The packages stay until the report is written: the
+/// blocks are read in their logs, and are not copied.
 pub(crate) fn run_report<R: Threads + Wait + Sync, M: QueueMaker, G: Gate, K: Sink>(
     rt: &R,
     alloc: Global,
@@ -174,10 +163,11 @@ where
         × Wrote (K.stream sink.old) (K.stream sink.new) text written) }
     ensures memory { OnErr result (K.stream sink.new ≡ K.stream sink.old) }
 {
+    let _threads = image.threads();
     let closed = run_closed(rt, alloc, image, order, options, setting)?;
     let (packages, locks) = closed.into_parts();
     let tail = tail_of(alloc, image, &packages, &locks)?;
     drop(locks);
-    let history = history_in(alloc, &packages)?;
-    write_report(rt, alloc, image, options, &history, &tail, sink)
+    let logs = logs_in(alloc, &packages)?;
+    write_report(rt, alloc, image, options, &logs, &tail, sink)
 }

@@ -1,8 +1,7 @@
 -- What a sink is given by writes one after another.
-use Rattle.std.proofs.Common.{◌≡◌, ℕ, ◌+◌, ◌*◌, add-one, Bor, List, ◌++◌, Result, Ok, Err, length, map, take, drop, length-append, sym, subst, ap, ◌∙◌, arith}
+use Rattle.std.proofs.Common.{◌≡◌, ℕ, ◌+◌, ◌*◌, ◌≤◌, add-one, Bor, List, ◌++◌, Result, Ok, Err, length, take, drop, length-append, sym, subst, ap, ◌∙◌, arith}
 use Rattle.std.proofs.KnownBytes.{Appends-trans}
-use Rattle.std.specs.List.{flat_map}
-use Rattle.std.proofs.lemmas.List.{map-append, take-append-drop, take-append-le}
+use Rattle.std.proofs.lemmas.List.{take_all, take-append-drop, take-append-le}
 use Rattle.std.proofs.lemmas.List.Concat.{flat_map-append}
 use Rattle.std.proofs.Math.Nat.{suc-mul}
 use Rattle.std.proofs.Math.Seq.{take-add, take-append-add}
@@ -11,9 +10,11 @@ use Rattle.std.specs.Io.KnownBytes.{Appends}
 use Rattle.tc_io.specs.Causes.{FailedOnce}
 use Rattle.tc_io.specs.Stream.{Stream}
 use Rattle.tc_io.specs.Taken.{FailsAmid, Gives}
-use Rattle.tc_journal.specs.Line.{block_line}
+use Rattle.tc_journal.specs.Line.{block_line, history_text}
 use Rattle.tc_journal.specs.declared.block.Block.{Block}
-use Rattle.tc_report.specs.Pieces.{lines_of, piece_of}
+use Rattle.tc_journal.proofs.Merged.{length_placed}
+use Rattle.tc_report.specs.Logs.{blocks_in, merged}
+use Rattle.tc_report.specs.Pieces.{lines_in, piece_of}
 use Rattle.tc_report.specs.declared.piece.TheConstants.{BLOCKS}
 use Rattle.tc_report.specs.Written.{Wrote}
 
@@ -46,29 +47,29 @@ wrote_later before mid now xs ys (Ok done) p q = gives_more before mid now xs ys
 wrote_later before mid now xs ys (Err failed) p f = fails_later before mid now xs ys p f
 
 -- the lines of the first blocks, and those of the others
-pub lines_split : (k : ℕ) (blocks : List (Bor Block)) → lines_of (take k blocks) ++ lines_of (drop k blocks) ≡ lines_of blocks
-lines_split k blocks =
-    let block : Bor Block → Block = λ b. b.now in
-    sym (flat_map-append block_line (map block (take k blocks)) (map block (drop k blocks)))
-    ∙ ap (flat_map block_line) (sym (map-append block (take k blocks) (drop k blocks)) ∙ ap (map block) (take-append-drop k blocks))
+pub lines_split : (k : ℕ) (h : List Block) → history_text (take k h) ++ history_text (drop k h) ≡ history_text h
+lines_split k h = sym (flat_map-append block_line (take k h) (drop k h)) ∙ ap history_text (take-append-drop k h)
 
 -- the lines of the first pieces, and those of the next one
-next_piece : (blocks : List (Bor Block)) (n : ℕ) → lines_of (take (n * BLOCKS) blocks) ++ piece_of blocks n ≡ lines_of (take ((n + 1) * BLOCKS) blocks)
-next_piece blocks n =
-    let block : Bor Block → Block = λ b. b.now in
-    let here : List (Bor Block) = take (n * BLOCKS) blocks in
-    let next : List (Bor Block) = slice_chunk blocks BLOCKS n in
-    let more : take ((n + 1) * BLOCKS) blocks ≡ here ++ next = ap (λ k. take k blocks) (ap (λ k. k * BLOCKS) (add-one n) ∙ suc-mul n BLOCKS) ∙ take-add (n * BLOCKS) BLOCKS blocks in
-    sym (ap lines_of more ∙ ap (flat_map block_line) (map-append block here next) ∙ flat_map-append block_line (map block here) (map block next))
+next_piece : (h : List Block) (n : ℕ) → history_text (take (n * BLOCKS) h) ++ piece_of h n ≡ history_text (take ((n + 1) * BLOCKS) h)
+next_piece h n =
+    let here : List Block = take (n * BLOCKS) h in
+    let next : List Block = slice_chunk h BLOCKS n in
+    let more : take ((n + 1) * BLOCKS) h ≡ here ++ next = ap (λ k. take k h) (ap (λ k. k * BLOCKS) (add-one n) ∙ suc-mul n BLOCKS) ∙ take-add (n * BLOCKS) BLOCKS h in
+    sym (ap history_text more ∙ flat_map-append block_line here next)
 
 -- and those of the pieces behind it
-pieces_split : (blocks : List (Bor Block)) (n : ℕ) → (lines_of (take (n * BLOCKS) blocks) ++ piece_of blocks n) ++ lines_of (drop ((n + 1) * BLOCKS) blocks) ≡ lines_of blocks
-pieces_split blocks n = ap (λ t. t ++ lines_of (drop ((n + 1) * BLOCKS) blocks)) (next_piece blocks n) ∙ lines_split ((n + 1) * BLOCKS) blocks
+pieces_split : (h : List Block) (n : ℕ) → (history_text (take (n * BLOCKS) h) ++ piece_of h n) ++ history_text (drop ((n + 1) * BLOCKS) h) ≡ history_text h
+pieces_split h n = ap (λ t. t ++ history_text (drop ((n + 1) * BLOCKS) h)) (next_piece h n) ∙ lines_split ((n + 1) * BLOCKS) h
 
 -- the first pieces were given, and this is the text of the next one
-module _ (before mid now : Stream) (blocks : List (Bor Block)) (n : ℕ) (text : List ℕ) (is : text ≡ piece_of blocks n) (given : Gives before mid (lines_of (take (n * BLOCKS) blocks))) where
-  pub piece_fails : FailsAmid mid now text → FailsAmid before now (lines_of blocks)
-  piece_fails failed = subst (FailsAmid before now) (pieces_split blocks n) (fails_early before now _ _ (fails_later before mid now _ _ given (subst (FailsAmid mid now) is failed)))
+module _ (before mid now : Stream) (h : List Block) (n : ℕ) (text : List ℕ) (is : text ≡ piece_of h n) (given : Gives before mid (history_text (take (n * BLOCKS) h))) where
+  pub piece_fails : FailsAmid mid now text → FailsAmid before now (history_text h)
+  piece_fails failed = subst (FailsAmid before now) (pieces_split h n) (fails_early before now _ _ (fails_later before mid now _ _ given (subst (FailsAmid mid now) is failed)))
 
-  pub piece_given : Gives mid now text → Gives before now (lines_of (take ((n + 1) * BLOCKS) blocks))
-  piece_given next = subst (Gives before now) (next_piece blocks n) (gives_more before mid now _ _ given (subst (Gives mid now) is next))
+  pub piece_given : Gives mid now text → Gives before now (history_text (take ((n + 1) * BLOCKS) h))
+  piece_given next = subst (Gives before now) (next_piece h n) (gives_more before mid now _ _ given (subst (Gives mid now) is next))
+
+-- there are no more pieces
+pub all_given : (before now : Stream) (logs : List (Bor (List Block))) (n : ℕ) → length (blocks_in logs) ≤ n * BLOCKS → Gives before now (history_text (take (n * BLOCKS) (merged logs))) → Gives before now (lines_in logs)
+all_given before now logs n end = subst (λ h. Gives before now (history_text h)) (take_all (n * BLOCKS) (merged logs) (omega (arith, end, length_placed (blocks_in logs) (blocks_in logs))))

@@ -1,4 +1,5 @@
 pub mod Written
+pub mod Logs
 pub mod Pieces
 pub mod Results
 pub mod Report

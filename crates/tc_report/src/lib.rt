@@ -7,12 +7,14 @@
 //!
 //! - `report`: the text of a report. `summary`: the text of a summary.
 //! - `write`: several threads write a report. `ring`: where they make the lines of the history,
-//!   while one writes them in order. `piece`: the lines of some blocks. `written`: how writing went.
+//!   while one writes them in order. `piece`: the lines of some blocks, which `row` finds in the
+//!   threads' logs and puts in order. `written`: how writing went.
 #![tactic(auto)]
 
 mod piece;
 pub mod report;
 mod ring;
+mod row;
 pub mod summary;
 mod write;
 pub mod written;

@@ -1,10 +1,10 @@
-//! The lines of some blocks of a history, and their memory.
+//! The lines of some blocks of a history, which stand in logs, and their memory.
 
-ghost use Rattle.std.specs.Prelude.{◌≡◌, ◌*◌, ◌≤◌, IfOk, length, min, string_bytes, string_capacity};
-ghost use Rattle.std.specs.Fork.{slice_chunk};
+ghost use Rattle.std.specs.Prelude.{◌≡◌, ◌*◌, ◌≤◌, length, string_bytes, string_capacity};
 ghost use Rattle.tc_journal.specs.declared.buffer.TheConstants.{LINE};
 ghost use Rattle.tc_report.specs.Pieces.{AreLines};
 
+use crate::row::{count_of, fill_row, row_of};
 use std::alloc::{AllocError, Global};
 use std::marker::{Brand, PhantomData};
 use tc_journal::block::Block;
@@ -32,46 +32,54 @@ impl History for Brand {
     ghost room = { 0 };
 }
 
-/// The blocks of the piece of this number.
-pub(crate) fn share<'a>(blocks: &'a [&'a Block], number: usize) -> &'a [&'a Block]
-    ensures blocks { result.now ≡ slice_chunk blocks.now BLOCKS number }
-    ensures few { length result.now ≤ min BLOCKS (length blocks.now) }
-{
-    let from = number.saturating_mul(BLOCKS).min(blocks.len());
-    let count = BLOCKS.min(blocks.len() - from);
-    &blocks[from..from + count]
-}
-
-/// Room for the lines of a piece. It is taken before a line is made, so that none can be wanting once a
-/// line of the report is written. What no line reaches takes no memory of the host.
+/// Room for the lines of a piece, and a row for its blocks. It is taken before a line is made, so that
+/// none can be wanting once a line of the report is written. What no line reaches takes no memory of the
+/// host. The row keeps the blocks of the last piece, until those of the next one take their places.
 #[derive(Drop)]
-pub(crate) struct Room<H: History> {
+pub(crate) struct Room<'a, H: History> {
     text: String,
+    row: Vec<&'a Block>,
     history: PhantomData<H>,
     ghost enough: { LINE * H.room ≤ string_capacity text },
+    ghost places: { length row.items ≡ H.room },
 }
 
-impl<H: History> Room<H> {
-    /// Room for the lines of so many blocks.
-    pub(crate) fn new(alloc: Global, blocks: usize) -> Result<Room<H>, AllocError>
-        requires most { blocks ≤ BLOCKS }
-        requires room { H.room ≤ blocks }
+impl<'a, H: History> Room<'a, H> {
+    /// Room for the lines of a piece of these logs.
+    pub(crate) fn new(alloc: Global, logs: &[&'a [Block]]) -> Result<Room<'a, H>, AllocError>
+        requires { AreLines logs.now H.lines H.room }
     {
+        let blocks = BLOCKS.min(count_of(logs));
         let text = String::with_capacity(alloc, LINE * blocks)?;
+        let row = row_of(alloc, logs, blocks)?;
         Ok(Room {
             text,
+            row,
             history: PhantomData,
         })
     }
 
-    /// Makes the lines of the piece of this number, in place of those that stood here.
-    pub(crate) fn fill(mut self, blocks: &[&Block], number: usize) -> Piece<H>
-        requires { AreLines blocks.now H.lines H.room }
+    /// Puts the blocks of the piece of this number in order, and makes their lines, in place of those that
+    /// stood here.
+    pub(crate) fn fill(self, logs: &[&'a [Block]], number: usize) -> Piece<'a, H>
+        requires { AreLines logs.now H.lines H.room }
         ensures { result.number ≡ number }
     {
-        self.text.clear();
-        match push_lent(&mut self.text, share(blocks, number)) {
-            Ok(()) => Piece { number, room: self },
+        let Room {
+            mut text,
+            mut row,
+            history,
+        } = self;
+        let count = count_of(logs);
+        let from = number.saturating_mul(BLOCKS).min(count);
+        let blocks = &mut row[..BLOCKS.min(count - from)];
+        fill_row(blocks, from, logs);
+        text.clear();
+        match push_lent(&mut text, blocks) {
+            Ok(()) => Piece {
+                number,
+                room: Room { text, row, history },
+            },
             Err(_) => unreachable!(),
         }
     }
@@ -79,13 +87,13 @@ impl<H: History> Room<H> {
 
 /// The piece of a number: its lines.
 #[derive(Drop)]
-pub(crate) struct Piece<H: History> {
+pub(crate) struct Piece<'a, H: History> {
     pub number: usize,
-    room: Room<H>,
+    room: Room<'a, H>,
     ghost lines: { string_bytes room.text ≡ H.lines number },
 }
 
-impl<H: History> Piece<H> {
+impl<'a, H: History> Piece<'a, H> {
     /// Its lines.
     pub(crate) fn text(&self) -> &str
         ensures { result.now ≡ H.lines self.now.number }
@@ -94,7 +102,7 @@ impl<H: History> Piece<H> {
     }
 
     /// The room that they stood in.
-    pub(crate) fn into_room(self) -> Room<H> {
+    pub(crate) fn into_room(self) -> Room<'a, H> {
         self.room
     }
 }

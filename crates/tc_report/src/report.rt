@@ -5,12 +5,14 @@ ghost use Rattle.tc_journal.specs.Digits.{hex2, hex8};
 ghost use Rattle.tc_report.specs.Legal.{results_after};
 ghost use Rattle.tc_report.specs.Outcome.{IsOutcome};
 ghost use Rattle.tc_io.specs.Calls.{Writes};
-ghost use Rattle.tc_report.specs.Pieces.{lines_of};
+ghost use Rattle.tc_report.specs.Logs.{AreLogs, blocks_in};
+ghost use Rattle.tc_report.specs.Pieces.{lines_in, lines_of};
 ghost use Rattle.tc_report.specs.Report as text;
 ghost use Rattle.tc_report.specs.Written.{Wrote};
 ghost use Rattle.tc_report.specs.declared.piece.TheConstants.{BLOCKS as PIECE};
 
 use crate::piece::BLOCKS;
+use crate::row::{count_of, whole_row};
 use crate::write::write_around;
 use crate::written::{Written, write_text};
 use std::alloc::{AllocError, Global};
@@ -314,36 +316,40 @@ pub fn report_with(
     Ok(out.into_bytes())
 }
 
-/// Writes the report with this text after its history, until a write fails. All memory is allocated
-/// before any of it is written, and that for the lines does not grow with the history. A history of
-/// one piece makes one text. A longer one is written in parts, each as a text of its own: the lines
-/// before the history, each piece, and the lines after it. As many threads as there were workers
-/// make the lines; the call may wait for them.
+/// Writes the report with this text after its history, until a write fails. The history stands in
+/// logs, in parts, and each piece of it is put in order where its lines are made. All memory is
+/// allocated before anything is written, and that for the lines does not grow with the history. A
+/// history of one piece makes one text. A longer one is written in parts, each as a text of its own:
+/// the lines before the history, each piece, and the lines after it. As many threads as there were
+/// workers make the lines; the call may wait for them.
 pub fn write_report<R: Threads + Wait + Sync, K: Sink>(
     rt: &R,
     alloc: Global,
     image: &Image,
     options: Options,
-    history: &[&Block],
+    logs: &[&[Block]],
     tail: &str,
     sink: &mut K,
 ) -> Result<Written, AllocError>
+    requires { AreLogs logs.now }
     ensures wrote { IfOk result (λ written. Wrote (K.stream sink.old) (K.stream sink.new)
-        (text.head_text image.now options ++ lines_of history.now ++ tail.now) written) }
-    ensures once { length history.now ≤ PIECE → IfOk result (λ written. Writes K.write_gives
-        (text.head_text image.now options ++ lines_of history.now ++ tail.now)
+        (text.head_text image.now options ++ lines_in logs.now ++ tail.now) written) }
+    ensures once { length (blocks_in logs.now) ≤ PIECE
+        → IfOk result (λ written. Writes K.write_gives
+        (text.head_text image.now options ++ lines_in logs.now ++ tail.now)
         sink.old written sink.new) }
     ensures memory { OnErr result (K.stream sink.new ≡ K.stream sink.old) }
 {
-    if history.len() <= BLOCKS {
-        let text = report_with(alloc, image, options, history, tail)?;
+    if count_of(logs) <= BLOCKS {
+        let blocks = whole_row(alloc, logs)?;
+        let text = report_with(alloc, image, options, &blocks, tail)?;
         return Ok(write_text(sink, &text));
     }
     let mut head = String::with_capacity(alloc, HEAD_ROOM)?;
     push_head(&mut head, image, options)?;
     let workers = options.workers as usize;
     let (head, tail) = (head.as_bytes(), tail.as_bytes());
-    write_around::<R, K, Brand>(rt, alloc, sink, head, history, tail, workers)
+    write_around::<R, K, Brand>(rt, alloc, sink, head, logs, tail, workers)
 }
 
 /// Blocks, borrowed.

@@ -1,10 +1,10 @@
 //! The ring in which several threads make the pieces of a history, and one writes them in order.
 
-ghost use Rattle.std.specs.Prelude.{◌≡◌, ◌<◌, ◌≤◌, length, min};
+ghost use Rattle.std.specs.Prelude.{◌≡◌, ◌<◌, length};
 ghost use Rattle.tc_report.specs.Pieces.{AreLines};
-ghost use Rattle.tc_report.specs.declared.piece.TheConstants.{BLOCKS};
 
 use crate::piece::{BLOCKS, History, Piece, Room};
+use crate::row::count_of;
 use std::alloc::{AllocError, Global};
 use std::mem::replace;
 use std::sync::{Condvar, Mutex, Wait};
@@ -12,11 +12,11 @@ use tc_journal::block::Block;
 
 /// A place of the ring.
 #[derive(Drop)]
-enum RingSlot<H: History> {
+enum RingSlot<'a, H: History> {
     /// Room for a piece.
-    Free(Room<H>),
+    Free(Room<'a, H>),
     /// A piece that can be written.
-    Full(Piece<H>),
+    Full(Piece<'a, H>),
     /// The room is in use: a piece is being made in it, or written.
     Taken,
 }
@@ -24,8 +24,8 @@ enum RingSlot<H: History> {
 /// The places, in which piece n has the place of n modulo their number, and which pieces are still to be
 /// made.
 #[derive(Drop)]
-struct Places<H: History> {
-    places: Vec<RingSlot<H>>,
+struct Places<'a, H: History> {
+    places: Vec<RingSlot<'a, H>>,
     // The first piece that nobody has begun to make.
     next: usize,
     // The number of all pieces.
@@ -33,15 +33,15 @@ struct Places<H: History> {
     ghost some: { 0 < length places.items },
 }
 
-impl<H: History> Places<H> {
+impl<'a, H: History> Places<'a, H> {
     /// Takes what stands at the place of this piece.
-    fn take(&mut self, number: usize) -> RingSlot<H> {
+    fn take(&mut self, number: usize) -> RingSlot<'a, H> {
         let at = number % self.places.len();
         replace(&mut self.places[at], RingSlot::Taken)
     }
 
     /// Puts something at the place of this piece.
-    fn put(&mut self, number: usize, place: RingSlot<H>) {
+    fn put(&mut self, number: usize, place: RingSlot<'a, H>) {
         let at = number % self.places.len();
         self.places[at] = place;
     }
@@ -52,7 +52,7 @@ impl<H: History> Places<H> {
     }
 
     /// The next piece is being made: its number, and the room for it. None where that is in use.
-    fn begin(&mut self) -> Option<(usize, Room<H>)> {
+    fn begin(&mut self) -> Option<(usize, Room<'a, H>)> {
         let number = self.next;
         match self.take(number) {
             RingSlot::Free(room) => {
@@ -68,7 +68,7 @@ impl<H: History> Places<H> {
 
     /// The piece of this number, or the room for it where nobody has begun to make it. None where one is
     /// making it.
-    fn find(&mut self, number: usize) -> Option<RingSlot<H>> {
+    fn find(&mut self, number: usize) -> Option<RingSlot<'a, H>> {
         match self.take(number) {
             RingSlot::Taken => None,
             found => {
@@ -81,25 +81,29 @@ impl<H: History> Places<H> {
 
 /// The pieces of a history, of which as many are made and not yet written as the ring has places.
 #[derive(Drop)]
-pub(crate) struct Ring<H: History> {
-    places: Mutex<Places<H>>,
+pub(crate) struct Ring<'a, H: History> {
+    places: Mutex<Places<'a, H>>,
     changed: Condvar,
 }
 
-impl<H: History> Ring<H> {
-    /// A ring for the pieces of so many blocks, with so many places.
-    pub(crate) fn new(alloc: Global, blocks: usize, size: usize) -> Result<Ring<H>, AllocError>
+impl<'a, H: History> Ring<'a, H> {
+    /// A ring for the pieces of the history that these logs have, with so many places.
+    pub(crate) fn new(
+        alloc: Global,
+        logs: &[&'a [Block]],
+        size: usize,
+    ) -> Result<Ring<'a, H>, AllocError>
         requires some { 0 < size }
-        requires room { H.room ≤ min BLOCKS blocks }
+        requires lines { AreLines logs.now H.lines H.room }
     {
         let mut places = Vec::with_capacity(alloc, size)?;
         while places.len() < size {
-            places.push(RingSlot::Free(Room::new(alloc, BLOCKS.min(blocks))?))?;
+            places.push(RingSlot::Free(Room::new(alloc, logs)?))?;
         }
         let places = Places {
             places,
             next: 0,
-            count: blocks.div_ceil(BLOCKS),
+            count: count_of(logs).div_ceil(BLOCKS),
         };
         Ok(Ring {
             places: Mutex::new(places),
@@ -108,14 +112,14 @@ impl<H: History> Ring<H> {
     }
 
     /// Puts something at the place of this piece. Whoever waits looks again.
-    fn put<R: Wait>(&self, rt: &R, number: usize, place: RingSlot<H>) {
+    fn put<R: Wait>(&self, rt: &R, number: usize, place: RingSlot<'a, H>) {
         self.places.lock(rt).put(number, place);
         self.changed.notify_all();
     }
 
     /// The number of the next piece to be made, with the room for it. It waits while that is in use. None
     /// where no piece is left to be made.
-    fn begin<R: Wait>(&self, rt: &R) -> Option<(usize, Room<H>)> {
+    fn begin<R: Wait>(&self, rt: &R) -> Option<(usize, Room<'a, H>)> {
         let mut places = self.places.lock(rt);
         for _ in rt.forever() {
             if places.all_begun() {
@@ -131,19 +135,19 @@ impl<H: History> Ring<H> {
     }
 
     /// Makes pieces until none is left to be made. It may wait until one is written.
-    pub(crate) fn make<R: Wait>(&self, rt: &R, blocks: &[&Block])
-        requires { AreLines blocks.now H.lines H.room }
+    pub(crate) fn make<R: Wait>(&self, rt: &R, logs: &[&'a [Block]])
+        requires { AreLines logs.now H.lines H.room }
     {
         for _ in rt.forever() {
             let Some((number, room)) = self.begin(rt) else {
                 break;
             };
-            self.put(rt, number, RingSlot::Full(room.fill(blocks, number)));
+            self.put(rt, number, RingSlot::Full(room.fill(logs, number)));
         }
     }
 
     /// The piece of this number, or the room for it. It waits while one is making it.
-    fn find<R: Wait>(&self, rt: &R, number: usize) -> RingSlot<H> {
+    fn find<R: Wait>(&self, rt: &R, number: usize) -> RingSlot<'a, H> {
         let mut places = self.places.lock(rt);
         for _ in rt.forever() {
             if let Some(found) = places.find(number) {
@@ -156,13 +160,13 @@ impl<H: History> Ring<H> {
 
     /// The piece of this number, to be written. Where nobody has begun to make it, it is made here; where
     /// one is making it, this waits.
-    pub(crate) fn piece<R: Wait>(&self, rt: &R, blocks: &[&Block], number: usize) -> Piece<H>
-        requires { AreLines blocks.now H.lines H.room }
+    pub(crate) fn piece<R: Wait>(&self, rt: &R, logs: &[&'a [Block]], number: usize) -> Piece<'a, H>
+        requires { AreLines logs.now H.lines H.room }
         ensures { result.number ≡ number }
     {
         for _ in rt.forever() {
             match self.find(rt, number) {
-                RingSlot::Free(room) => return room.fill(blocks, number),
+                RingSlot::Free(room) => return room.fill(logs, number),
                 RingSlot::Full(piece) if piece.number == number => return piece,
                 other => self.put(rt, number, other),
             }
@@ -171,7 +175,7 @@ impl<H: History> Ring<H> {
     }
 
     /// Gives the room of a piece back, which is written.
-    pub(crate) fn give_back<R: Wait>(&self, rt: &R, piece: Piece<H>) {
+    pub(crate) fn give_back<R: Wait>(&self, rt: &R, piece: Piece<'a, H>) {
         let number = piece.number;
         self.put(rt, number, RingSlot::Free(piece.into_room()));
     }

@@ -1,7 +1,7 @@
 use Rattle.std.proofs.Common.{◌++◌}
 use Rattle.std.proofs.lemmas.Result.{err_from_is_err_and}
 use Rattle.tc_io.specs.Taken.{Gives}
-use Rattle.tc_report.specs.Pieces.{lines_of}
+use Rattle.tc_report.specs.Pieces.{lines_in}
 use Rattle.tc_report.specs.Written.{Wrote}
 use Rattle.tc_report.proofs.Writing.{gives_more, fails_early, fails_later, wrote_later}
 use Rattle.tc_report.proofs.write.write_between.Goals as goal
@@ -24,4 +24,4 @@ returns g c =
     let head : Gives before mid c.args.head.now = c.in_ok-write_text.ensures.wrote in
     let front = gives_more before mid later _ _ head c.in_ok-write_lines.ensures in
     let last : Wrote later now c.args.tail.now c.write_text-2.result = c.write_text-2.ensures.wrote in
-    wrote_later before later now (c.args.head.now ++ lines_of c.args.blocks.now) c.args.tail.now c.write_text-2.result front last
+    wrote_later before later now (c.args.head.now ++ lines_in c.args.logs.now) c.args.tail.now c.write_text-2.result front last
