@@ -2,6 +2,7 @@ pub mod Vocabulary
 pub mod LockList
 pub mod Moved
 pub mod Partway
+pub mod Stepping
 pub mod Blocked
 pub mod Staging
 pub mod Ended

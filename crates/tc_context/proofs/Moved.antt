@@ -217,7 +217,7 @@ module _ (image : Shown) (block noting : ℕ → Bool) (old new : Context) (mid 
       turned_mutex image old.thread k (thread_in old) (act_in image old) (note k l) (record { number = m.0 ∙ was.number; known = was.known; of = m.1 ∙ was.of })
       ∙ ap (mutex_after image old.thread held (act_in image old) k) (when_field (mutex_of old.thread (held k)) (noting k && takes_word k wanted next) (with_journal (noted (answer ∷ []))) l refl)
 
-  turn_from : AreOf image old.locks → wanted ≡ wants_of image held old.guest.regs → next ≡ next_lock image (thread_in old) → answer ≡ answer_to image wanted next (thread_in old).own (mutex_at old)
+  pub turn_from : AreOf image old.locks → wanted ≡ wants_of image held old.guest.regs → next ≡ next_lock image (thread_in old) → answer ≡ answer_to image wanted next (thread_in old).own (mutex_at old)
       → ((k : ℕ) → noting k ≡ (if old.guest.fuel == 0 then false else block k)) → Changed note old.locks mid → Changed (turned held did) mid new.locks → new.thread ≡ old.thread → thread_in new ≡ thread_after (thread_in old) (act_in image old) → IsTurn image block old new
   turn_from of w n a notes first second number thread =
       let changed : Changed change old.locks new.locks = λ k. second k ∙ ap (option_map (turned held did k)) (first k) ∙ option_map-twice (note k) (turned held did k) (change k) (lock_in old.locks k) (λ l. refl) in

@@ -1,13 +1,13 @@
 -- A package in the middle of a block.
-use Rattle.std.proofs.Common.{◌≡◌, ℕ, ◌+◌, ◌-◌, ◌<◌, ◌≤◌, Bool, true, false, ◌&&◌, ◌++◌, ◌==◌, [], length, refl, sym, ap, subst, ◌∙◌, arith, add-one, zero, suc, Option, Some, None, nat_lt, is_some, if◌then◌else◌}
-use Rattle.tc_context.proofs.Vocabulary.{option_map, has, MAX_TURNS, Shown, Thread, Mutex, thread_of, is_running, next_lock, outcome_of, Guest, LockView, Journal, lock_in, mutex_or, Context, thread_in, mutex_at, whole, set_of, journal_at, Keeps, CanGo, block_locks, RunsAs, act_in, IsTurn, noted_when, words_of, AreOpen, HasRoom, AreNoted, GoesOn, AreOwnTurns, MayTurn}
+use Rattle.std.proofs.Common.{◌≡◌, ℕ, ◌+◌, ◌-◌, ◌<◌, ◌≤◌, Bool, true, false, ◌&&◌, ◌++◌, length, refl, sym, ap, subst, ◌∙◌, arith, add-one, zero, suc, Option, Some, None, nat_lt, is_some, if◌then◌else◌}
+use Rattle.tc_context.proofs.Vocabulary.{option_map, has, MAX_TURNS, Shown, Thread, is_running, next_lock, outcome_of, LockView, Journal, lock_in, mutex_or, Context, thread_in, mutex_at, whole, set_of, journal_at, Keeps, CanGo, block_locks, RunsAs, act_in, IsTurn, noted_when, words_of, AreOpen, HasRoom, AreNoted, GoesOn, MayTurn}
 use Rattle.std.proofs.lemmas.Bool.Decides.{nat_tests}
 use Rattle.tc_exec.specs.InPlace.{done_of}
 use Rattle.tc_journal.specs.Rule.{end_rule}
 use Rattle.tc_journal.specs.declared.block.End.{End}
 use Rattle.tc_turn.specs.Reads.{Covers}
 use Rattle.tc_turn.specs.Replay.{word_of}
-use Rattle.tc_turn.proofs.Turns.{next_free, covers_on, goes_on}
+use Rattle.tc_turn.proofs.Turns.{next_free, covers_on, held_on, went_on, goes_on}
 use Rattle.tc_mutex_spec.specs.Machine.{State, is_free, is_open, can_turn, after}
 use Rattle.tc_mutex_spec.specs.Locality.{Agree}
 use Rattle.tc_mutex_spec.specs.Blocks.{reach, Runs}
@@ -15,7 +15,7 @@ use Rattle.tc_mutex_spec.proofs.Local.{after_thread, after_mutex, agree_trans, a
 use Rattle.tc_mutex_spec.proofs.BlocksAlike.{covers_block, runs_same, runs_apart}
 use Rattle.tc_context.specs.Block.{DidTurns}
 use Rattle.tc_context.specs.Middle.{DidTurn}
-use Rattle.tc_context.specs.Ran.{slept_by, slept_at}
+use Rattle.tc_context.specs.Ran.{slept_by, slept_at, slept_in}
 use Rattle.tc_exec.specs.declared.outcome.Done.{Done}
 use Rattle.tc_mutex_spec.proofs.Going.{end_done, next_small}
 use Rattle.tc_turn.specs.InPlace.{outcome_done}
@@ -25,12 +25,14 @@ use Rattle.tc_mutex_spec.proofs.Within.{AreWithin, within_start, within_more, wi
 use Rattle.tc_mutex_spec.proofs.Replaying.{words_next}
 use Rattle.tc_mutex_spec.proofs.OptionLaws.{map_some, option_map-id, option_map-twice}
 use Rattle.tc_context.proofs.Moved.{when_nil, when_more, when_open}
-use Rattle.tc_turn.proofs.Words.{words_short, word_same}
+use Rattle.tc_turn.proofs.Words.{word_short, words_short, word_same}
 use Rattle.tc_exec.specs.declared.outcome.Act.{Act}
 use Rattle.tc_exec.specs.declared.outcome.Act.TheVariants.{Next, Called}
-use Rattle.tc_exec.specs.declared.outcome.Call.TheVariants.{Sleep}
-use Rattle.tc_turn.specs.Own.{IsOwnTurn, OwnRun}
+use Rattle.tc_exec.specs.declared.outcome.Call.TheVariants.{Lock, Sleep}
+use Rattle.tc_journal.specs.declared.rule.Outcome.{Outcome}
 use Rattle.tc_journal.specs.declared.rule.Outcome.TheVariants as outcome
+use Rattle.tc_exec.specs.declared.outcome.Done.TheVariants as done
+use Rattle.tc_context.specs.Run.{MayRun}
 
 pub record Partway (image : Shown) (block : ℕ → Bool) (old now : Context) (n : ℕ) : Type 0 where
   pub short : n < MAX_TURNS
@@ -177,8 +179,8 @@ module _ {image : Shown} {block : ℕ → Bool} {old now : Context} {n : ℕ} (m
       let was = map_some (noted_when (block k) (words_of image old k n)) (journal_at old k) j (sym (partway.journals k) ∙ at) in
       ap (λ (i : Journal). is_some i.opened) was.2 ∙ when_open (block k) (words_of image old k n) was.0 ∙ may.opened k was.0 was.1 h
 
-  -- there is room for one word more
-  room_here : HasRoom 1 block now
+  -- there is room for the words that are left
+  room_here : HasRoom (MAX_TURNS - n) block now
   room_here k j at h =
       let ws = words_of image old k n in
       let was = map_some (noted_when (block k) ws) (journal_at old k) j (sym (partway.journals k) ∙ at) in
@@ -188,85 +190,73 @@ module _ {image : Shown} {block : ℕ → Bool} {old now : Context} {n : ℕ} (m
       let short = partway.short in
       omega (arith, r, big, less, short)
 
-  -- so the next turn may come
+  -- so turns may come
+  pub run_here : MayRun image block (MAX_TURNS - n) now
+  run_here = record { guards = partway.go.guards; of = partway.go.of; held = partway.covers.held; opened = opened_here; room = room_here }
+
   pub may_here : MayTurn image block 1 now
-  may_here = record { go = partway.go; covers = partway.covers; opened = opened_here; room = room_here }
+  may_here = record { go = partway.go; covers = partway.covers; opened = opened_here; room = λ k j at h. (let r = room_here k j at h in let short = partway.short in omega (arith, r, short)) }
 
--- ---- turns that touch the thread's own memory alone, one after another
+-- ---- turns that go on
 
--- the package with another thread of the same number
-abbrev pub with_guest : Context → Guest → Context
-with_guest p g = record { thread = p.thread; guest = g; locks = p.locks }
+-- a turn that ends no block went on
+went_by : (o : Outcome) (n : ℕ) (next : Option ℕ) → end_rule o n next ≡ None → o ≡ outcome.Went
+went_by outcome.Went n next e = refl
+went_by outcome.Exited n next e = absurd (cc)
+went_by (outcome.Faulted f) n next e = absurd (cc)
+went_by outcome.Spent n next e = absurd (cc)
+went_by (outcome.Unlocked lock) n next e = absurd (cc)
+went_by outcome.Slept n next e = absurd (cc)
 
-module _ (image : Shown) (block : ℕ → Bool) (loads : Bool) (quiet : loads ≡ true → (k : ℕ) → block k ≡ false) (p : Context) where
-  -- no lock of the block notes a word of such a turn
-  unnoted : (d : Thread) (locks : ℕ → Mutex) (k : ℕ) (j : Journal) → (loads ≡ false → word_of image k d locks ≡ []) → noted_when (block k) (word_of image k d locks) j ≡ j
-  unnoted d locks k j words = by loads refl
-    where
-      by : (b : Bool) → loads ≡ b → noted_when (block k) (word_of image k d locks) j ≡ j
-      by true e = ap (λ b. noted_when b (word_of image k d locks) j) (quiet e k)
-      by false e = ap (λ ws. noted_when (block k) ws j) (words e) ∙ when_nil (block k) j
+-- a LOCK goes on
+pub went_lock : {image : Shown} {block : ℕ → Bool} {old new : Context} {lock : ℕ} → DidTurn image block old new (Some (done.Called (Lock lock))) → outcome_of (act_in image old) ≡ outcome.Went
+went_lock {image = image} {old = old} did = sym (same_outcome (act_in image old)) ∙ ap outcome_done (sym did.done)
 
-  own_is : (g h : Guest) → IsOwnTurn image loads (thread_of g) (thread_of h) → IsTurn image block (with_guest p g) (with_guest p h)
-  own_is g h turn =
-      let locks = mutex_at (with_guest p g) in
-      record {
-        keeps = record { thread = refl; set = λ k. refl; of = λ i of. of };
-        thread = sym (turn.after locks);
-        locks = λ k some. ap (λ (held : ℕ → Bool). mutex_or p.thread (held k) (lock_in p.locks k)) turn.held ∙ sym (turn.alone locks p.thread k (locks k));
-        journals = λ k. sym (option_map-id (noted_when (block k) (word_of image k (thread_of g) locks)) (journal_at p k) (λ j. unnoted (thread_of g) locks k j (λ no. turn.words no locks k)));
-      }
-
-  all_go : (n : ℕ) (g h : Guest) → OwnRun image loads n g h → next_lock image (thread_of h) ≡ None → GoesOn image block n (with_guest p g) (with_guest p h)
-  all_go zero g h run none = ap (with_guest p) run
-  all_go (suc n) g h run none = (
-    with_guest p run.0,
-    all_go n g run.0 run.1 run.2.none,
-    own_is run.0 h run.2,
-    run.2.went (mutex_at (with_guest p run.0)),
-    none,
-  )
-
-  pub own_turns : (n : ℕ) (h : Guest) → 0 < n → OwnRun image loads n p.guest h → AreOwnTurns image block p (with_guest p h) n
-  own_turns zero h some run = absurd (omega arith)
-  own_turns (suc n) h some run = record {
-    before = n;
-    count = sym (add-one n);
-    last = with_guest p run.0;
-    goes = all_go n p.guest run.0 run.1 run.2.none;
-    turn = own_is run.0 h run.2;
-    went = run.2.went (mutex_at (with_guest p run.0));
-  }
-
--- turns that go on leave the package in the middle of its block
-pub partway_on : (image : Shown) (block : ℕ → Bool) (old now : Context) (c n : ℕ) (last : Context) → Partway image block old now c → c + n < MAX_TURNS → GoesOn image block n now last → Partway image block old last (c + n)
-partway_on image block old now c zero last partway lt goes = subst (λ (x : Context × ℕ). Partway image block old x.0 x.1) (let e : c ≡ c + 0 = omega arith in λ i. (goes i, e i)) partway
-partway_on image block old now c (suc n) last partway lt goes =
-    let mid = partway_on image block old now c n goes.0 partway (omega (arith, lt)) goes.1 in
-    let rule = (λ i. end_rule (goes.3 i) (c + n + 1) (goes.4 i)) ∙ no_cut (c + n + 1) (omega (arith, lt)) in
-    subst (Partway image block old last) (let e : c + n + 1 ≡ c + suc n = omega arith in e) (partway_more mid goes.2 rule)
-
--- turns of the thread's own in the middle of a block: the package before the last of them, and that turn
-pub record Taken (image : Shown) (block : ℕ → Bool) (old new : Context) (n : ℕ) : Type 0 where
-  pub last : Context
-  pub before : ℕ
-  pub count : n ≡ before + 1
-  pub partway : Partway image block old last before
-  pub turn : IsTurn image block last new
-  pub went : outcome_of (act_in image last) ≡ outcome.Went
-
-pub taken : {image : Shown} {block : ℕ → Bool} {old now new : Context} {c n : ℕ} → Partway image block old now c → n ≤ MAX_TURNS - c → AreOwnTurns image block now new n → Taken image block old new (c + n)
-taken {image = image} {block = block} {old = old} {now = now} {c = c} partway most turns =
-    let short = partway.short in
-    let count = turns.count in
+-- the room for a turn's word is taken, and what it asked is there for the next
+pub may_more : {image : Shown} {block : ℕ → Bool} {old new : Context} (n : ℕ) → MayRun image block (suc n) old → IsTurn image block old new → Covers image block (thread_in old) → MayRun image block n new
+may_more {image = image} {block = block} {old = old} {new = new} n may turn covers =
+    let words = λ (k : ℕ). word_of image k (thread_in old) (mutex_at old) in
+    let was = λ (k : ℕ) (j : Journal) (at : journal_at new k ≡ Some j). map_some (noted_when (block k) (words k)) (journal_at old k) j (sym (turn.journals k) ∙ at) in
     record {
-      last = turns.last;
-      before = c + turns.before;
-      count = omega arith;
-      partway = partway_on image block old now c turns.before turns.last partway (omega arith) turns.goes;
-      turn = turns.turn;
-      went = turns.went;
+      guards = may.guards;
+      of = turn.keeps.of image may.of;
+      held = λ k h. held_on image block (thread_in old) (mutex_at old) covers k (sym (ap (λ (d : Thread). d.held k) turn.thread) ∙ h);
+      opened = λ k j at h. (let w = was k j at in ap (λ (i : Journal). is_some i.opened) w.2 ∙ when_open (block k) (words k) w.0 ∙ may.opened k w.0 w.1 h);
+      room = λ k j at h.
+          (let w = was k j at in
+          let r : j.word_room ≡ w.0.word_room - length (words k) = ap (λ (i : Journal). i.word_room) w.2 ∙ ap (λ v. (noted_when v (words k) w.0).word_room) h ∙ ap (λ v. if v then w.0.word_room - length (words k) else w.0.word_room) (may.opened k w.0 w.1 h) in
+          let big = may.room k w.0 w.1 h in
+          let less = word_short image k (thread_in old) (mutex_at old) in
+          omega (arith, r, big, less));
     }
+
+-- so many turns of a block were done, the last of which went on
+abbrev pub IsOn : Shown → (ℕ → Bool) → Context → Context → ℕ → Type 0
+IsOn image block old now zero = (now ≡ old) × (next_lock image (thread_in old) ≡ None)
+IsOn image block old now (suc n) = (last : Context) × Partway image block old last n × IsTurn image block last now × (outcome_of (act_in image last) ≡ outcome.Went)
+
+module _ {image : Shown} {block : ℕ → Bool} {old : Context} (may : MayTurn image block MAX_TURNS old) where
+  -- where no LOCK follows, the package is in the middle of the block
+  pub on_free : (n : ℕ) (now : Context) → IsOn image block old now n → n < MAX_TURNS → next_lock image (thread_in now) ≡ None → Partway image block old now n
+  on_free zero now on lt none = subst (λ p. Partway image block old p 0) (sym on.0) (partway_start image block old may.go may.covers)
+  on_free (suc n) now on lt none =
+      let e = add-one n in
+      subst (Partway image block old now) e (partway_more on.1 on.2 ((λ i. end_rule (on.3 i) (e i) (none i)) ∙ no_cut (suc n) lt))
+
+  pub on_run : (c n : ℕ) (now new : Context) → IsOn image block old now c → c + n ≤ MAX_TURNS → GoesOn image block n now new → IsOn image block old new (c + n)
+  on_run c zero now new on most goes = subst (λ (x : Context × ℕ). IsOn image block old x.0 x.1) (let e : c ≡ c + 0 = omega arith in λ i. (goes i, e i)) on
+  on_run c (suc n) now new on most goes =
+      let mid = on_run c n now goes.0 on (omega (arith, most)) goes.1 in
+      let step = goes.2 in
+      subst (IsOn image block old new) (let e : suc (c + n) ≡ c + suc n = omega arith in e) (goes.0, on_free (c + n) goes.0 mid (omega (arith, most)) step.none, step.turn, step.went)
+
+  -- what the turns that are left ask
+  pub on_may : (n : ℕ) (now : Context) → IsOn image block old now n → MayRun image block (MAX_TURNS - n) now
+  on_may zero now on = subst (MayRun image block MAX_TURNS) (sym on.0) (record { guards = may.go.guards; of = may.go.of; held = may.covers.held; opened = may.opened; room = may.room })
+  on_may (suc n) now on =
+      let short = on.1.short in
+      let more : MAX_TURNS - n ≡ suc (MAX_TURNS - suc n) = omega (arith, short) in
+      may_more (MAX_TURNS - suc n) (subst (λ m. MayRun image block m on.0) more (run_here may on.1)) on.2 on.1.covers
 
 -- a turn that goes on is no SLEEP
 pub sleeps_not : (a : Option Act) → outcome_of a ≡ outcome.Went → slept_by (option_map done_of a) ≡ 0
@@ -275,30 +265,32 @@ sleeps_not (Some (Next next (Some put))) e = refl
 sleeps_not (Some (Called (Sleep blocks) next)) e = absurd (cc)
 sleeps_not _ e = refl
 
--- a test of a number that is not 0
-chosen : (n : ℕ) (o : Option End) → o ≡ (if suc n == 0 then None else o)
-chosen n o = (let e : (suc n == 0) ≡ false = grind (arith, nat_tests) in ap (λ b. if b then None else o) (sym e))
+-- turns that went on end the block here
+pub on_ends : {image : Shown} {block : ℕ → Bool} {old now : Context} (n : ℕ) {lock : Option ℕ} (end : End) → MayTurn image block MAX_TURNS old → IsOn image block old now n → lock ≡ next_lock image (thread_in now) → end_rule outcome.Went n lock ≡ Some end
+    → DidTurns image block old now (record { end = end; count = n; slept = 0; next = lock })
+on_ends {image = image} {old = old} {now = now} zero end may on next rule =
+    absurd (let none : None ≡ Some end = sym (no_cut 0 (omega arith)) ∙ ap (end_rule outcome.Went 0) (sym (next ∙ ap (λ (p : Context). next_lock image (thread_in p)) on.0 ∙ on.1)) ∙ rule in cc)
+on_ends {image = image} {block = block} {old = old} {now = now} (suc n) {lock = lock} end may on next rule =
+    let e : n + 1 ≡ suc n = add-one n in
+    let partway = on.1 in
+    let turn = on.2 in
+    let rule_n : end_rule outcome.Went (suc n) (next_lock image (thread_in now)) ≡ Some end = ap (end_rule outcome.Went (suc n)) (sym next) ∙ rule in
+    let ends = (λ i. end_rule (on.3 i) (e i) (next_lock image (thread_in now))) ∙ rule_n in
+    record {
+      runs = subst (λ m. RunsAs image old now m end) e (partway_ends partway turn ends may.go);
+      most = (let short = partway.short in omega arith);
+      ends = end_done (Some done.Went) (suc n) (next_lock image (thread_in now)) end tt (next_small image (thread_in now) may.go.guards) rule_n;
+      sleeps = sym (sleeps_not (act_in image on.0) on.3) ∙ partway_slept partway turn ∙ ap (slept_in image old) e;
+      journals = subst (λ m. AreNoted image block m old now) e (noted_next partway turn);
+      follows = next;
+    }
 
--- turns of the thread's own, or none, that end no block leave the package in the middle of it
-pub partway_own : {image : Shown} {block : ℕ → Bool} {old now new : Context} {c : ℕ} (n : ℕ) {lock : Option ℕ} → Partway image block old now c → n ≤ MAX_TURNS - c → (0 < n → AreOwnTurns image block now new n) → (n ≡ 0 → new ≡ now)
-    → lock ≡ next_lock image (thread_in new) → (if n == 0 then None else end_rule outcome.Went (c + n) lock) ≡ None → Partway image block old new (c + n)
-partway_own {image = image} {block = block} {old = old} {c = c} zero partway most turns none next rule =
-    subst (λ (x : Context × ℕ). Partway image block old x.0 x.1) (let e : c ≡ c + 0 = omega arith in λ i. (sym (none refl) i, e i)) partway
-partway_own {image = image} {block = block} {old = old} {new = new} {c = c} (suc n) {lock = lock} partway most turns none next rule =
-    let t = taken partway most (turns (omega arith)) in
-    subst (Partway image block old new) (sym t.count)
-    (partway_more t.partway t.turn ((λ i. end_rule (t.went i) (sym t.count i) (sym next i)) ∙ chosen n (end_rule outcome.Went (c + suc n) lock) ∙ rule))
-
--- a block that ends behind turns of the thread's own has such turns
-pub own_some : (n : ℕ) (o : Option End) (e : End) → (if n == 0 then None else o) ≡ Some e → (0 < n) × (o ≡ Some e)
-own_some zero o e is = absurd (cc)
-own_some (suc n) o e is = (omega arith, chosen n o ∙ is)
-
--- no turn of the thread's own, or some that end no block, are followed by no LOCK
-pub own_free : (n c : ℕ) (lock : Option ℕ) → (n ≡ 0 → lock ≡ None) → (if n == 0 then None else end_rule outcome.Went (c + n) lock) ≡ None → lock ≡ None
-own_free zero c lock none rule = none refl
-own_free (suc n) c None none rule = refl
-own_free (suc n) c (Some k) none rule = absurd (let e = chosen n (end_rule outcome.Went (c + suc n) (Some k)) ∙ rule in cc)
+-- turns that went on and end no block are followed by no LOCK
+pub on_goes : {image : Shown} {block : ℕ → Bool} {old now : Context} (n : ℕ) {lock : Option ℕ} → MayTurn image block MAX_TURNS old → IsOn image block old now n → n ≤ MAX_TURNS → lock ≡ next_lock image (thread_in now) → end_rule outcome.Went n lock ≡ None
+    → Partway image block old now n × (lock ≡ None)
+on_goes {image = image} {now = now} n {lock = lock} may on most next rule =
+    let free = went_on n lock rule in
+    (on_free may n now on (omega (arith, most, free.1)) (sym next ∙ free.0), free.0)
 
 -- ---- a turn that is told
 
@@ -317,6 +309,6 @@ module _ {image : Shown} {block : ℕ → Bool} {old now new : Context} {n : ℕ
     follows = next;
   }
 
-  -- it does not, so it is followed by no LOCK
-  pub told_goes : end_rule (outcome_done done) (n + 1) lock ≡ None → Partway image block old new (n + 1) × (lock ≡ None)
-  told_goes rule = (partway_more partway did.turn (same_rule ∙ rule), next ∙ (goes_on (thread_in now) (act_in image now) (n + 1) (next_lock image (thread_in new)) (same_rule ∙ rule)).0)
+  -- it does not, so it went on
+  pub told_on : end_rule (outcome_done done) (n + 1) lock ≡ None → IsOn image block old new (n + 1)
+  told_on rule = subst (IsOn image block old new) (let e : suc n ≡ n + 1 = omega arith in e) (now, partway, did.turn, went_by (outcome_of (act_in image now)) (n + 1) (next_lock image (thread_in new)) (same_rule ∙ rule))

@@ -8,7 +8,7 @@ pub use Rattle.tc_segment.specs.View.{Closes, ClosesWith, EndedAt, HasRoomFor, I
 pub use Rattle.tc_context.specs.declared.context.Context.{Context}
 pub use Rattle.tc_context.specs.Locks.{AreOf, CanClose, CanSeal, Changed, EachHeld, EachLock, Gives, HoldsAt, IsLockOf, IsPlaced, IsReady, IsWithin, MayGoOn, SameLocks, StoreFits, StoreReady, TurnFits, TurnReady, at_place, broken_in, closed_in, lock_in, mutex_of, mutex_or, noted_in, opened_in, sealed_all, sealed_in, slot_of, stored_in, turned, when_in}
 pub use Rattle.tc_context.specs.Whole.{AreEnded, CanGo, Journals, Keeps, RunsAs, block_locks, entered, entry_of, journal_at, journal_in, mutex_at, set_of, thread_in, whole, with_entry}
-pub use Rattle.tc_context.specs.Middle.{AreNoted, AreOpen, AreOwnTurns, AreReady, DidTurn, GoesOn, HasRoom, IsTurn, MayTurn, act_in, noted_when, words_of}
+pub use Rattle.tc_context.specs.Middle.{AreNoted, AreOpen, AreReady, DidTurn, GoesOn, HasRoom, IsStep, IsTurn, MayTurn, act_in, noted_when, words_of}
 pub use Rattle.tc_context.specs.View.{Allows, EndsWith, IsAfter, IsAt, IsFresh, IsGranted, IsIdle, IsLeft, IsNumber, IsPending, IsReserved, IsRoomier, IsSoundPackage, IsStored, IsWaiting, IsWanted, LastIsSealed, MayPassTo, MayTake, PackageView}
 pub use Rattle.tc_context.specs.View.{WantIsGranted, fits_granted, fits_in, fits_of, granted_lock, kind_of, number_in, sealed_log, waiting_in, want_of, with_grant, with_seal, without_lock}
 pub use Rattle.tc_context.specs.Kept.{KeptPackage, context_in, guest_in, pending_in, view_of}

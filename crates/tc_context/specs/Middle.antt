@@ -1,5 +1,5 @@
 -- A package in the middle of a block.
-use Rattle.std.specs.Prelude.{◌≡◌, ℕ, zero, suc, ◌+◌, ◌≤◌, Bool, true, List, Option, Some, None, IfSome, is_some}
+use Rattle.std.specs.Prelude.{◌≡◌, ℕ, zero, suc, ◌≤◌, Bool, true, List, Option, Some, None, IfSome, is_some}
 use Rattle.std.specs.Option.{option_map}
 use Rattle.tc_isa.specs.Sets.{has}
 use Rattle.tc_elf.specs.Shown.{Shown}
@@ -65,16 +65,13 @@ words_of image p k n =
 abbrev pub AreNoted : Shown → (ℕ → Bool) → ℕ → Context → Context → Type 0
 AreNoted image block n old new = (k : ℕ) → journal_at new k ≡ option_map (noted_when (block k) (words_of image old k n)) (journal_at old k)
 
--- so many turns, each of which goes on and is followed by no LOCK
+-- the next turn takes no lock, and goes on
+pub record IsStep (image : Shown) (block : ℕ → Bool) (old new : Context) : Type 0 where
+  pub none : next_lock image (thread_in old) ≡ None
+  pub turn : IsTurn image block old new
+  pub went : outcome_of (act_in image old) ≡ Went
+
+-- so many such turns
 abbrev pub GoesOn : Shown → (ℕ → Bool) → ℕ → Context → Context → Type 0
 GoesOn image block zero old now = old ≡ now
-GoesOn image block (suc n) old now = (mid : Context) × GoesOn image block n old mid × IsTurn image block mid now × (outcome_of (act_in image mid) ≡ Went) × (next_lock image (thread_in now) ≡ None)
-
--- so many turns, each of which goes on, and each but the last is followed by no LOCK
-pub record AreOwnTurns (image : Shown) (block : ℕ → Bool) (old new : Context) (n : ℕ) : Type 0 where
-  pub before : ℕ
-  pub count : n ≡ before + 1
-  pub last : Context
-  pub goes : GoesOn image block before old last
-  pub turn : IsTurn image block last new
-  pub went : outcome_of (act_in image last) ≡ Went
+GoesOn image block (suc n) old now = (mid : Context) × GoesOn image block n old mid × IsStep image block mid now

@@ -16,10 +16,10 @@ ghost use Rattle.tc_mutex_spec.specs.Blocks.{locks_of_block};
 ghost use Rattle.tc_context.specs.Kept.{IsLogWith};
 ghost use Rattle.tc_context.specs.Ran.{slept_by as slept_of_turn};
 
-use crate::locks::{LockSet, is_empty};
+use crate::locks::LockSet;
 use std::alloc::{AllocError, Global};
 use tc_elf::image::Image;
-use tc_exec::code::{Ahead, Code};
+use tc_exec::code::Code;
 use tc_exec::outcome::{Call, Done, Want};
 use tc_exec::step::instruction_at;
 use tc_isa::fault::Fault;
@@ -41,14 +41,6 @@ pub(crate) struct Turns {
     count: u32,
     slept: u32,
     next: Option<u32>,
-}
-
-/// Turns that touch registers and the thread's own memory alone: how many they are, and what is ahead
-/// of the thread behind them.
-#[derive(Clone, Copy)]
-struct OwnSteps<'a> {
-    count: u32,
-    ahead: Ahead<'a>,
 }
 
 /// A block that ran, the number of the SLEEP with which it ended, else 0, and the lock that the
@@ -79,7 +71,7 @@ pub struct Context {
 
 impl Context {
     ghost use Rattle.tc_context.specs.Whole.{thread_in, mutex_at};
-    ghost use Rattle.tc_context.specs.Middle.{AreOwnTurns, MayTurn, DidTurn};
+    ghost use Rattle.tc_context.specs.Middle.{MayTurn, DidTurn};
     ghost use Rattle.tc_context.specs.Block.{IsAtStart, MayTurnBy, MayTurns, DidTurns, MayRunBlock, DidRunBlock};
 
     /// The thread of this number at its start, but for its own memory, which has no byte yet, and
@@ -191,45 +183,6 @@ impl Context {
         fueled
     }
 
-    /// Turns that touch registers and the thread's own memory alone, but at most so many: none where
-    /// the next one, which takes no lock, is known to be another.
-    fn own_turns<'a>(
-        &mut self,
-        image: &Image,
-        code: &'a Code,
-        block: Held,
-        known: Option<&'a Instr>,
-        most: u32,
-    ) -> OwnSteps<'a>
-        requires code { code.now ≡ image.now }
-        requires ahead { IsAhead image.now (thread_in self.old) (record { lock = None; instr = known }) }
-        ensures turns { 0 < result.count
-            → AreOwnTurns image.now (has block) self.old self.new result.count }
-        ensures none { result.count ≡ 0 → self.new ≡ self.old }
-        ensures most { result.count ≤ most }
-        ensures ahead { IsAhead image.now (thread_in self.new) result.ahead }
-    {
-        // No journal notes what a block without locks loads.
-        let loads = is_empty(block);
-        if !may_be_own(known, loads) {
-            let ahead = Ahead {
-                lock: None,
-                instr: known,
-            };
-            return OwnSteps { count: 0, ahead };
-        }
-        let own = self.guest.run_own(image, code, most, loads);
-        if own.count == 0 {
-            let instr = own.stop;
-            let ahead = Ahead { lock: None, instr };
-            return OwnSteps { count: 0, ahead };
-        }
-        OwnSteps {
-            count: own.count,
-            ahead: self.guest.ahead(image, code, own.stop),
-        }
-    }
-
     /// Runs the turns of one block with these locks, whose entries are open. `takes` is the lock
     /// that the first turn takes: no other turn takes one, since a block ends before it.
     fn turns(&mut self, image: &Image, code: &Code, block: Held, takes: Option<u32>) -> Turns
@@ -238,29 +191,24 @@ impl Context {
         ensures did { DidTurns image.now (has block) self.old self.new result }
     {
         let mut count = 0;
-        let mut known = None;
         if let Some(lock) = takes {
             self.lock_turn(image, block, lock);
             count = 1;
-            let ahead = self.guest.ahead(image, code, None);
+        }
+        'block: loop {
+            // What is ahead is asked once, where the run stops: no turn of it is a guest call.
+            let run = self.run(image, code, block, MAX_TURNS - count);
+            count += run.count;
+            let ahead = self.guest.ahead(image, code, run.stop);
             if let Some(end) = end_of(Outcome::Went, count, ahead.lock) {
                 return ended(end, count, 0, ahead.lock);
             }
-            known = ahead.instr;
-        }
-        'block: loop {
-            let own = self.own_turns(image, code, block, known, MAX_TURNS - count);
-            count += own.count;
-            if let Some(end) = own_end(own.count, count, own.ahead.lock) {
-                return ended(end, count, 0, own.ahead.lock);
-            }
-            let done = self.other_turn(image, code, block, own.ahead.instr);
+            let done = self.other_turn(image, code, block, ahead.instr);
             count += 1;
-            let ahead = self.guest.ahead(image, code, None);
-            if let Some(end) = end_of(outcome_by(&done), count, ahead.lock) {
-                return ended(end, count, slept_by(&done), ahead.lock);
+            let behind = self.guest.ahead(image, code, None);
+            if let Some(end) = end_of(outcome_by(&done), count, behind.lock) {
+                return ended(end, count, slept_by(&done), behind.lock);
             }
-            known = ahead.instr;
         }
     }
 
@@ -379,27 +327,6 @@ fn ended(end: End, count: u32, slept: u32, next: Option<u32>) -> Turns
         slept,
         next,
     }
-}
-
-/// Whether the next turn may be one that touches the thread's own memory alone, by its instruction
-/// where that is known: a guest call is none, nor is a load that a journal notes.
-fn may_be_own(known: Option<&Instr>, loads: bool) -> bool {
-    match known {
-        Some(Instr::Ecall) => false,
-        Some(Instr::Load { .. }) => loads,
-        _ => true,
-    }
-}
-
-/// How a block ends behind so many turns of the thread's own, if it ends there: it does not where they
-/// are none.
-fn own_end(own: u32, turns: u32, next: Option<u32>) -> Option<End>
-    ensures { result ≡ (if own == 0 then None else end_rule Went turns next) }
-{
-    if own == 0 {
-        return None;
-    }
-    end_of(Outcome::Went, turns, next)
 }
 
 /// The number of a SLEEP, 0 of any other turn.

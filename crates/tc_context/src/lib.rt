@@ -11,13 +11,15 @@
 //! - `specs/View.antt`: a package as contracts see it, and its invariant. `specs/Whole.antt`: its
 //!   thread and locks as a part of the machine. `specs/Block.antt`: what a block needs of these,
 //!   and what it did. `specs/Ran.antt`: the package after a block.
-//! - `package`: packages. `context`: the thread, its locks and the steps of a block. `locks`: the
-//!   lock states of a package. `room`: room for blocks that are to come.
+//! - `package`: packages. `context`: the thread, its locks and the steps of a block. `run`: those
+//!   steps that decoded code has, one after another. `locks`: the lock states of a package. `room`:
+//!   room for blocks that are to come.
 #![tactic(auto)]
 
 pub mod context;
 pub mod locks;
 pub mod package;
 mod room;
+mod run;
 
 pub use crate::package::Package;

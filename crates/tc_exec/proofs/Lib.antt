@@ -5,5 +5,5 @@ pub mod Laws
 pub mod NoLock
 mod DoneTold
 mod Slots
-mod Loaded
+pub mod Loaded
 pub mod Touches

@@ -1,8 +1,9 @@
--- Turns that touch the thread's own memory alone.
-use Rattle.std.proofs.Common.{◌≡◌, ℕ, suc, ◌-◌, ◌<◌, ◌==◌, Bool, true, false, [], refl, ap, subst, ◌∙◌, arith}
+-- Turns that a step does.
+use Rattle.std.proofs.Common.{◌≡◌, ℕ, ◌<◌, ◌==◌, Bool, true, false, not, List, [], ◌∷◌, refl, sym, ap, subst, ◌∙◌, arith}
 use Rattle.std.specs.Prelude.{if◌then◌else◌, Option, Some, None, Ok}
 use Rattle.std.proofs.lemmas.Bool.Decides.{nat_tests}
 use Rattle.tc_isa.specs.Registers.{Registers, with_register}
+use Rattle.tc_isa.specs.Sets.{has}
 use Rattle.tc_isa.specs.declared.instr.Instr.{Instr}
 use Rattle.tc_isa.specs.declared.instr.LoadKind.{LoadKind}
 use Rattle.tc_isa.specs.declared.instr.StoreKind.{StoreKind}
@@ -11,19 +12,21 @@ use Rattle.tc_elf.specs.Places.{region_of}
 use Rattle.tc_elf.specs.declared.image.Region.{Region}
 use Rattle.tc_elf.specs.declared.image.Region.TheVariants as region
 use Rattle.tc_exec.specs.Access.{load_width, store_width, extended, load_want, load, put_at, store}
-use Rattle.tc_exec.specs.Flow.{at_next}
+use Rattle.tc_exec.specs.Flow.{at_next, set}
 use Rattle.tc_exec.specs.Step.{instruction_at, act_by, wants_by, act_from, wants_from, act_of, wants_of}
-use Rattle.tc_exec.specs.Touch.{is_own, IsOwn}
+use Rattle.tc_exec.specs.Touch.{is_own, IsTouched}
 use Rattle.tc_exec.specs.declared.outcome.Act.{Act}
 use Rattle.tc_exec.specs.declared.outcome.Act.TheVariants.{Next}
 use Rattle.tc_exec.specs.declared.outcome.Put.{Put}
 use Rattle.tc_exec.specs.declared.outcome.Want.{Want}
 use Rattle.tc_exec.specs.declared.outcome.Want.TheVariants as want
-use Rattle.tc_exec.proofs.Touches.{own_want, own_load, own_store}
-use Rattle.tc_turn.specs.Own.{IsOwnTurn, OwnRun, own_number, fuelled, loaded, stored, spent}
-use Rattle.tc_turn.specs.Replay.{word_of}
-use Rattle.tc_turn.specs.Way.{is_gone, on_or_not}
-use Rattle.tc_turn.specs.declared.own_turns.Way.{Way}
+use Rattle.tc_exec.specs.declared.touch.Touched.TheVariants as touched
+use Rattle.tc_exec.proofs.Loaded.{set_steps}
+use Rattle.tc_exec.proofs.Touches.{open_want, open_load, open_store}
+use Rattle.tc_turn.specs.Own.{IsOwnTurn, IsOwnStep, HasLoaded, HasStored, HasStepped, put_of, own_number, fuelled, loaded, stored, spent}
+use Rattle.tc_turn.specs.Replay.{word_of, is_own_guard, takes_word}
+use Rattle.tc_turn.specs.declared.own_turns.Step.{Step}
+use Rattle.tc_turn.specs.declared.own_turns.Step.TheVariants as step
 use Rattle.tc_turn.specs.Turn.{Thread, Mutex, Guest, thread_of, taken_by, next_lock, next_act, answer_of, answer_to, guard_with, guard_after, thread_after, mutex_after, outcome_of}
 
 -- ---- what is stored in the thread's own memory leaves the locks alone
@@ -37,11 +40,11 @@ still image region.Nothing k l addr width value e = absurd (cc)
 
 -- ---- a turn that goes on, whatever the locks are
 
-none_next : (image : Shown) (d : Thread) → (d.fuel == 0) ≡ false → taken_by (act_of image d.held d.regs 0) ≡ None → next_lock image d ≡ None
+pub none_next : (image : Shown) (d : Thread) → (d.fuel == 0) ≡ false → taken_by (act_of image d.held d.regs 0) ≡ None → next_lock image d ≡ None
 unfolding next_lock
 none_next image d some free = ap (λ b. if b then None else taken_by (act_of image d.held d.regs 0)) some ∙ free
 
-next_is : (image : Shown) (d : Thread) (locks : ℕ → Mutex) (a : Act) → (d.fuel == 0) ≡ false → act_of image d.held d.regs (answer_of image d locks) ≡ a → next_act image d locks ≡ Some a
+pub next_is : (image : Shown) (d : Thread) (locks : ℕ → Mutex) (a : Act) → (d.fuel == 0) ≡ false → act_of image d.held d.regs (answer_of image d locks) ≡ a → next_act image d locks ≡ Some a
 unfolding next_act
 next_is image d locks a some act = ap (λ b. if b then None else Some (act_of image d.held d.regs (answer_of image d locks))) some ∙ ap Some act
 
@@ -49,11 +52,27 @@ no_word : (image : Shown) (k : ℕ) (d : Thread) (locks : ℕ → Mutex) → (d.
 unfolding word_of
 no_word image k d locks some wants none = rw (some, wants, none) refl
 
-turn : (image : Shown) (loads : Bool) (d : Thread) (next : Registers) (put : Option Put) → 0 < d.fuel
+-- the number of a load from a place that is no guard is a word for each lock
+not_guard : (k : ℕ) (place : Region) → is_own place ≡ true → is_own_guard k place ≡ false
+not_guard k region.Text e = absurd (cc)
+not_guard k region.Private e = refl
+not_guard k region.Stack e = refl
+not_guard k (region.Guard lock) e = absurd (cc)
+not_guard k region.Nothing e = absurd (cc)
+
+one_word : (image : Shown) (k : ℕ) (d : Thread) (locks : ℕ → Mutex) (place : Region) (addr width number : ℕ) → (d.fuel == 0) ≡ false → wants_of image d.held d.regs ≡ want.Load place addr width → is_own place ≡ true
+    → answer_of image d locks ≡ number → word_of image k d locks ≡ number ∷ []
+unfolding word_of
+one_word image k d locks place addr width number some wants own answer =
+    ap (λ b. if b then [] else (if takes_word k (wants_of image d.held d.regs) (next_lock image d) then answer_of image d locks ∷ [] else [])) some
+    ∙ (λ i. if takes_word k (wants i) (next_lock image d) then answer i ∷ [] else [])
+    ∙ ap (λ b. if not b then number ∷ [] else []) (not_guard k place own)
+
+turn : (image : Shown) (words : List ℕ) (d : Thread) (next : Registers) (put : Option Put) → 0 < d.fuel
     → ((locks : ℕ → Mutex) → act_of image d.held d.regs (answer_of image d locks) ≡ Next next put) → taken_by (act_of image d.held d.regs 0) ≡ None
-    → ((k : ℕ) (l : Mutex) → guard_after image put k l ≡ l) → (loads ≡ false → wants_of image d.held d.regs ≡ want.Nothing)
-    → IsOwnTurn image loads d (thread_after d (Some (Next next put)))
-turn image loads d next put fuel acts free alone wants =
+    → ((k : ℕ) (l : Mutex) → guard_after image put k l ≡ l) → ((d.fuel == 0) ≡ false → next_lock image d ≡ None → (locks : ℕ → Mutex) (k : ℕ) → word_of image k d locks ≡ words)
+    → IsOwnTurn image words d (thread_after d (Some (Next next put)))
+turn image words d next put fuel acts free alone noted =
     let some : (d.fuel == 0) ≡ false = grind (arith, nat_tests) in
     let none = none_next image d some free in
     let is : (locks : ℕ → Mutex) → next_act image d locks ≡ Some (Next next put) = λ locks. next_is image d locks (Next next put) some (acts locks) in
@@ -63,7 +82,7 @@ turn image loads d next put fuel acts free alone wants =
       alone = λ locks t k l. ap (λ a. mutex_after image t d.held a k l) (is locks) ∙ alone k l;
       none = none;
       held = refl;
-      words = λ no locks k. no_word image k d locks some (wants no) none;
+      words = noted some none;
     }
 
 -- ---- what the next instruction does, where it is known
@@ -78,12 +97,17 @@ want_is image held r i at = ap (wants_from image held r) at
 
 -- ---- the three kinds
 
-pub plain_turn : (image : Shown) (loads : Bool) (d : Thread) (next : Registers) (i : Instr) → 0 < d.fuel → instruction_at image d.regs.pc ≡ Ok i
+plain_turn : (image : Shown) (d : Thread) (next : Registers) (i : Instr) → 0 < d.fuel → instruction_at image d.regs.pc ≡ Ok i
     → ((answer : ℕ) → act_by image d.held d.regs answer i ≡ Next next None) → wants_by image d.held d.regs i ≡ want.Nothing
-    → IsOwnTurn image loads d (spent (record d { regs = next }))
-plain_turn image loads d next i fuel at acts wants =
+    → IsOwnTurn image [] d (spent (record d { regs = next }))
+plain_turn image d next i fuel at acts wants =
     let act : (answer : ℕ) → act_of image d.held d.regs answer ≡ Next next None = λ answer. act_is image d.held d.regs i answer at ∙ acts answer in
-    turn image loads d next None fuel (λ locks. act (answer_of image d locks)) (ap taken_by (act 0)) (λ k l. refl) (λ no. want_is image d.held d.regs i at ∙ wants)
+    turn image [] d next None fuel (λ locks. act (answer_of image d locks)) (ap taken_by (act 0)) (λ k l. refl) (λ some none locks k. no_word image k d locks some (want_is image d.held d.regs i at ∙ wants) none)
+
+pub plain_step : (image : Shown) (g : Guest) (next : Registers) (i : Instr) → instruction_at image g.regs.pc ≡ Ok i
+    → ((answer : ℕ) → act_by image (has g.held) g.regs answer i ≡ Next next None) → wants_by image (has g.held) g.regs i ≡ want.Nothing
+    → IsOwnStep image [] g (record g { regs = next })
+plain_step image g next i at acts wants = record { turn = λ left some. plain_turn image (fuelled left (thread_of g)) next i some at acts wants; fuel = refl }
 
 own_put : (place : Region) (d : Thread) (addr width value : ℕ) → is_own place ≡ true
     → thread_after d (Some (Next (at_next d.regs) (Some (put_at place addr width value)))) ≡ thread_after d (Some (Next (at_next d.regs) (Some (put_at region.Private addr width value))))
@@ -93,18 +117,18 @@ own_put region.Stack d addr width value e = refl
 own_put (region.Guard lock) d addr width value e = absurd (cc)
 own_put region.Nothing d addr width value e = absurd (cc)
 
-pub store_turn : (image : Shown) (loads : Bool) (d : Thread) (kind : StoreKind) (addr value : ℕ) (i : Instr) → 0 < d.fuel → instruction_at image d.regs.pc ≡ Ok i
+store_turn : (image : Shown) (d : Thread) (kind : StoreKind) (addr value : ℕ) (i : Instr) → 0 < d.fuel → instruction_at image d.regs.pc ≡ Ok i
     → ((answer : ℕ) → act_by image d.held d.regs answer i ≡ store image d.held d.regs kind addr value) → wants_by image d.held d.regs i ≡ want.Nothing
-    → IsOwn image addr (store_width kind) → IsOwnTurn image loads d (spent (stored kind addr value d))
-store_turn image loads d kind addr value i fuel at acts wants own =
+    → IsTouched image d.held addr (store_width kind) touched.Own → IsOwnTurn image [] d (spent (stored kind addr value d))
+store_turn image d kind addr value i fuel at acts wants own =
     let width = store_width kind in
     let place = region_of image addr width in
     let put = put_at place addr width value in
     let act : (answer : ℕ) → act_of image d.held d.regs answer ≡ Next (at_next d.regs) (Some put) =
-    λ answer. act_is image d.held d.regs i answer at ∙ acts answer ∙ own_store image d.held d.regs kind addr value own in
-    subst (IsOwnTurn image loads d) (own_put place d addr width value own.own)
-    (turn image loads d (at_next d.regs) (Some put) fuel (λ locks. act (answer_of image d locks)) (ap taken_by (act 0))
-    (λ k l. still image place k l addr width put.value own.own) (λ no. want_is image d.held d.regs i at ∙ wants))
+    λ answer. act_is image d.held d.regs i answer at ∙ acts answer ∙ open_store image d.held d.regs kind addr value touched.Own own in
+    subst (IsOwnTurn image [] d) (own_put place d addr width value own.lies)
+    (turn image [] d (at_next d.regs) (Some put) fuel (λ locks. act (answer_of image d locks)) (ap taken_by (act 0))
+    (λ k l. still image place k l addr width put.value own.lies) (λ some none locks k. no_word image k d locks some (want_is image d.held d.regs i at ∙ wants) none))
 
 answer_is : (image : Shown) (place : Region) (addr width : ℕ) (next : Option ℕ) (d : Thread) (locks : ℕ → Mutex) → is_own place ≡ true → answer_to image (want.Load place addr width) next d.own locks ≡ own_number d addr width
 answer_is image region.Text addr width next d locks e = absurd (cc)
@@ -113,31 +137,77 @@ answer_is image region.Stack addr width next d locks e = refl
 answer_is image (region.Guard lock) addr width next d locks e = absurd (cc)
 answer_is image region.Nothing addr width next d locks e = absurd (cc)
 
-pub load_turn : (image : Shown) (loads : Bool) (d : Thread) (kind : LoadKind) (rd addr : ℕ) (i : Instr) → 0 < d.fuel → instruction_at image d.regs.pc ≡ Ok i
+load_turn : (image : Shown) (d : Thread) (kind : LoadKind) (rd addr : ℕ) (i : Instr) → 0 < d.fuel → instruction_at image d.regs.pc ≡ Ok i
     → ((answer : ℕ) → act_by image d.held d.regs answer i ≡ load image d.held d.regs answer kind rd addr) → wants_by image d.held d.regs i ≡ load_want image d.held kind addr
-    → loads ≡ true → IsOwn image addr (load_width kind) → IsOwnTurn image loads d (spent (loaded kind rd addr d))
-load_turn image loads d kind rd addr i fuel at acts wants may own =
+    → IsTouched image d.held addr (load_width kind) touched.Own → IsOwnTurn image (own_number d addr (load_width kind) ∷ []) d (spent (loaded kind rd addr d))
+load_turn image d kind rd addr i fuel at acts wants own =
     let width = load_width kind in
+    let place = region_of image addr width in
+    let number = own_number d addr width in
     let next : ℕ → Registers = λ answer. at_next (with_register d.regs rd (extended kind answer)) in
     let act : (answer : ℕ) → act_of image d.held d.regs answer ≡ Next (next answer) None =
-    λ answer. act_is image d.held d.regs i answer at ∙ acts answer ∙ own_load image d.held d.regs answer kind rd addr own in
-    let want : wants_of image d.held d.regs ≡ want.Load (region_of image addr width) addr width = want_is image d.held d.regs i at ∙ wants ∙ own_want image d.held kind addr own in
-    let answer : (locks : ℕ → Mutex) → answer_of image d locks ≡ own_number d addr width =
-    λ locks. ap (λ (w : Want). answer_to image w (next_lock image d) d.own locks) want ∙ answer_is image (region_of image addr width) addr width (next_lock image d) d locks own.own in
-    turn image loads d (next (own_number d addr width)) None fuel (λ locks. act (answer_of image d locks) ∙ ap (λ n. Next (next n) None) (answer locks)) (ap taken_by (act 0))
-    (λ k l. refl) (λ no. absurd (cc))
+    λ answer. act_is image d.held d.regs i answer at ∙ acts answer ∙ open_load image d.held d.regs answer kind rd addr touched.Own own in
+    let want : wants_of image d.held d.regs ≡ want.Load place addr width = want_is image d.held d.regs i at ∙ wants ∙ open_want image d.held kind addr touched.Own own in
+    let answer : (locks : ℕ → Mutex) → answer_of image d locks ≡ number =
+    λ locks. ap (λ (w : Want). answer_to image w (next_lock image d) d.own locks) want ∙ answer_is image place addr width (next_lock image d) d locks own.lies in
+    turn image (number ∷ []) d (next number) None fuel (λ locks. act (answer_of image d locks) ∙ ap (λ n. Next (next n) None) (answer locks)) (ap taken_by (act 0))
+    (λ k l. refl) (λ some none locks k. one_word image k d locks place addr width number some want own.lies (answer locks))
 
--- ---- whether a turn was done
+-- ---- what a load or a store makes of a thread is a step
 
-pub went_on : (way : Way) (b : Bool) → way ≡ on_or_not b → is_gone way ≡ true → b ≡ true
-went_on way true e gone = refl
-went_on way false e gone = absurd (cc)
+pub load_stepped : (image : Shown) (g h : Guest) (kind : LoadKind) (rd addr : ℕ) (i : Instr) (s : Step) → instruction_at image g.regs.pc ≡ Ok i
+    → ((answer : ℕ) → act_by image (has g.held) g.regs answer i ≡ load image (has g.held) g.regs answer kind rd addr) → wants_by image (has g.held) g.regs i ≡ load_want image (has g.held) kind addr
+    → HasLoaded image kind rd addr g h s → HasStepped image g h s
+load_stepped image g h kind rd addr i step.Stays at acts wants is = is
+load_stepped image g h kind rd addr i step.Next at acts wants is = absurd is
+load_stepped image g h kind rd addr i step.Jumps at acts wants is = absurd is
+load_stepped image g h kind rd addr i (step.Loaded number) at acts wants is = (
+  record {
+    turn = λ left some.
+        (let d = fuelled left (thread_of g) in
+        subst (λ n. IsOwnTurn image (n ∷ []) d (spent (fuelled left (thread_of h)))) (sym is.number)
+        (subst (λ e. IsOwnTurn image (own_number d addr (load_width kind) ∷ []) d (spent (fuelled left e))) (sym is.after) (load_turn image d kind rd addr i some at acts wants is.own)));
+    fuel = ap (λ (d : Thread). d.fuel) is.after;
+  },
+  ap (λ (d : Thread). d.regs.pc) is.after ∙ set_steps g.regs rd (extended kind (own_number (thread_of g) addr (load_width kind))),
+)
+load_stepped image g h kind rd addr i (step.AtLoad l) at acts wants is =
+    let held = has g.held in
+    let wanted : wants_of image held g.regs ≡ want.Load (region.Guard l.lock) addr (load_width kind) =
+    want_is image held g.regs i at ∙ wants ∙ open_want image held kind addr (touched.Guard l.lock) is.guard ∙ ap (λ p. want.Load p addr (load_width kind)) is.guard.lies.0 in (
+      is.rest,
+      record {
+        want = wanted ∙ ap (λ m. want.Load (region.Guard l.lock) m.addr m.width) (sym is.load);
+        act = λ answer. act_is image held g.regs i answer at ∙ acts answer ∙ open_load image held g.regs answer kind rd addr (touched.Guard l.lock) is.guard ∙ ap (λ m. set g.regs m.rd (extended m.kind answer)) (sym is.load);
+      },
+    )
+load_stepped image g h kind rd addr i (step.AtStore s) at acts wants is = absurd is
 
--- ---- one turn more
-
-pub run_more : (image : Shown) (loads : Bool) (n f : ℕ) (g mid last : Guest) → n < f → OwnRun image loads n g (record mid { fuel = f - n })
-    → ((fuel : ℕ) → 0 < fuel → IsOwnTurn image loads (fuelled fuel (thread_of mid)) (spent (fuelled fuel (thread_of last))))
-    → OwnRun image loads (suc n) g (record last { fuel = f - suc n })
-run_more image loads n f g mid last low run turn =
-    let less : f - n - 1 ≡ f - suc n = omega arith in
-    (record mid { fuel = f - n }, run, subst (λ left. IsOwnTurn image loads (fuelled (f - n) (thread_of mid)) (fuelled left (thread_of last))) less (turn (f - n) (omega arith)))
+pub store_stepped : (image : Shown) (g h : Guest) (kind : StoreKind) (addr value : ℕ) (i : Instr) (s : Step) → instruction_at image g.regs.pc ≡ Ok i
+    → ((answer : ℕ) → act_by image (has g.held) g.regs answer i ≡ store image (has g.held) g.regs kind addr value) → wants_by image (has g.held) g.regs i ≡ want.Nothing
+    → HasStored image kind addr value g h s → HasStepped image g h s
+store_stepped image g h kind addr value i step.Stays at acts wants is = is
+store_stepped image g h kind addr value i step.Next at acts wants is = (
+  record {
+    turn = λ left some.
+        (let d = fuelled left (thread_of g) in
+        subst (λ e. IsOwnTurn image [] d (spent (fuelled left e))) (sym is.after) (store_turn image d kind addr value i some at acts wants is.own));
+    fuel = ap (λ (d : Thread). d.fuel) is.after;
+  },
+  ap (λ (d : Thread). d.regs.pc) is.after,
+)
+store_stepped image g h kind addr value i step.Jumps at acts wants is = absurd is
+store_stepped image g h kind addr value i (step.Loaded number) at acts wants is = absurd is
+store_stepped image g h kind addr value i (step.AtLoad l) at acts wants is = absurd is
+store_stepped image g h kind addr value i (step.AtStore s) at acts wants is =
+    let held = has g.held in
+    let width = store_width kind in
+    let regs : h.regs ≡ at_next g.regs = ap (λ (x : Guest). x.regs) is.rest in
+    let put : put_at (region_of image addr width) addr width value ≡ put_of s = ap (λ p. put_at p addr width value) is.guard.lies.0 ∙ ap put_of (sym is.store) in (
+      record {
+        want = want_is image held g.regs i at ∙ wants;
+        act = λ answer. act_is image held g.regs i answer at ∙ acts answer ∙ open_store image held g.regs kind addr value (touched.Guard s.lock) is.guard ∙ (λ i. Next (sym regs i) (Some (put i)));
+        rest = is.rest ∙ ap (λ r. record g { regs = r }) (sym regs);
+      },
+      ap (λ (r : Registers). r.pc) regs,
+    )

@@ -185,17 +185,18 @@ held_known image d locks held k h = elim (held_grows d (next_act image d locks) 
   | inr took ↦ next_known image d k (act_takes image d _ k took.0 took.1)
 ]
 
+-- what is held after the turn is in the set
+pub held_on : (image : Shown) (set : ℕ → Bool) (d : Thread) (locks : ℕ → Mutex) → Covers image set d → (k : ℕ) → (thread_after d (next_act image d locks)).held k ≡ true → set k ≡ true
+unfolding next_act
+held_on image set d locks covers k h = elim (held_grows d (next_act image d locks) k h) [
+  | inl before ↦ covers.held k before
+  | inr took ↦ covers.next k (act_takes image d _ k took.0 took.1)
+]
+
 -- after a turn that takes no lock next, the same set covers the next turn
 pub covers_on : (image : Shown) (set : ℕ → Bool) (d : Thread) (locks : ℕ → Mutex) → Covers image set d
     → next_lock image (thread_after d (next_act image d locks)) ≡ None → Covers image set (thread_after d (next_act image d locks))
-unfolding next_act
-covers_on image set d locks covers none = record {
-  held = λ k h. elim (held_grows d (next_act image d locks) k h) [
-    | inl before ↦ covers.held k before
-    | inr took ↦ covers.next k (act_takes image d _ k took.0 took.1)
-  ];
-  next = λ k h. cc;
-}
+covers_on image set d locks covers none = record { held = held_on image set d locks covers; next = λ k h. cc }
 
 -- ---- a turn that releases a lock
 
@@ -216,7 +217,7 @@ released_held image d locks lock e =
 
 -- ---- a turn that ends no block
 
-went_on : (turns : ℕ) (next : Option ℕ) → end_rule outcome.Went turns next ≡ None → (next ≡ None) × (turns ≢ MAX_TURNS)
+pub went_on : (turns : ℕ) (next : Option ℕ) → end_rule outcome.Went turns next ≡ None → (next ≡ None) × (turns ≢ MAX_TURNS)
 went_on turns None e = (refl, λ f. grind (arith, nat_tests))
 went_on turns (Some k) e = absurd (cc)
 

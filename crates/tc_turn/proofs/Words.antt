@@ -27,7 +27,7 @@ word_same image set k d a b covers same =
     (answer_same image set (wants_of image d.held d.regs) (next_lock image d) d.own a b (λ lock addr width e. covers.held lock (guard_is_held image d.held d.regs lock addr width e)) covers.next same)
 
 -- each turn has one word or none
-word_short : (image : Shown) (k : ℕ) (d : Thread) (locks : ℕ → Mutex) → length (word_of image k d locks) ≤ 1
+pub word_short : (image : Shown) (k : ℕ) (d : Thread) (locks : ℕ → Mutex) → length (word_of image k d locks) ≤ 1
 unfolding word_of
 word_short image k d locks = go (d.fuel == 0) (takes_word k (wants_of image d.held d.regs) (next_lock image d)) _
   where

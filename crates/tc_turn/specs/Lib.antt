@@ -6,4 +6,3 @@ pub mod Reads
 pub mod Replay
 pub mod InPlace
 pub mod Own
-pub mod Way

@@ -8,7 +8,7 @@
 //!
 //! - `status`: whether and how a thread has ended. `outcome`: how a step came out for its block.
 //! - `number`: numbers in bytes. `memory`: a thread's own memory. `thread`: a thread, which
-//!   executes acts. `own_turns`: its steps that touch its own memory alone.
+//!   executes acts. `own_turns`: its steps, one at a time in a loop.
 //! - `answer`: the answer that a step needs from its surroundings.
 //! - `turn_laws`: lemmas on what a step reads and what it leaves alone.
 #![tactic(auto)]

@@ -1,0 +1,17 @@
+use Rattle.std.proofs.Common.{◌≡◌, ◌≤◌, ◌<◌, ◌+◌, ◌*◌, ◌-◌}
+use Rattle.std.specs.Prelude.{length}
+use Rattle.tc_context.proofs.Vocabulary.{has, GoesOn}
+use Rattle.tc_context.specs.Run.{MayRun, fuelled}
+use Rattle.tc_context.proofs.context.Context.run_stretch.Given as goal
+
+abbrev pub invariant-run : goal.invariant-run
+invariant-run l = record {
+  runs : GoesOn l.image (has l.block) l.count l.fn.self (fuelled (l.fn.self.guest.fuel - l.count) l.self);
+  fuel : l.self.guest.fuel ≡ l.fn.self.guest.fuel;
+  most : l.count ≤ l.most;
+  slot : l.slot < length l.stretch.slots.now → l.stretch.start + 4 * l.slot ≡ l.self.guest.regs.pc;
+  may : MayRun l.image (has l.block) (l.most - l.count) l.self;
+}
+
+abbrev pub decreases-run : goal.decreases-run
+decreases-run l = l.most - l.count
