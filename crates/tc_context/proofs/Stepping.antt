@@ -11,10 +11,9 @@ use Rattle.tc_exec.specs.declared.outcome.Done.TheVariants as done
 use Rattle.tc_exec.specs.declared.outcome.Put.{Put}
 use Rattle.tc_exec.specs.declared.outcome.Want.{Want}
 use Rattle.tc_exec.specs.declared.outcome.Want.TheVariants as want
-use Rattle.tc_turn.specs.Own.{IsOwnStep, IsAtStore, put_of}
+use Rattle.tc_turn.specs.Own.{IsOwnStep}
 use Rattle.tc_turn.specs.Reads.{Covers}
 use Rattle.tc_turn.specs.Turn.{answer_of, own_after}
-use Rattle.tc_turn.specs.declared.own_turns.GuardStore.{GuardStore}
 use Rattle.tc_turn.proofs.OwnTurns.{none_next, next_is}
 use Rattle.tc_mutex_spec.proofs.OptionLaws.{option_map-id}
 use Rattle.tc_segment.proofs.Words.{noted_nil}
@@ -99,15 +98,15 @@ guard_gone image block p wanted answer next put mid locks of wants found act fre
 }
 
 -- what a store in a guard asks of the locks
-pub store_may : (image : Shown) (block : ℕ → Bool) (n : ℕ) (p : Context) (g : Guest) (s : GuardStore) → MayRun image block n p → IsAtStore image p.guest g s
-    → TurnFits (Some (done_of (Next g.regs (Some (put_of s))))) × ((k : ℕ) (l : LockView) → lock_in p.locks k ≡ Some l → TurnReady (has p.guest.held) (Some (done_of (Next g.regs (Some (put_of s))))) k l)
-store_may image block n p g s may is =
+pub store_may : (image : Shown) (block : ℕ → Bool) (n : ℕ) (p : Context) (next : Registers) (put : Put) → MayRun image block n p → ((answer : ℕ) → act_of image (has p.guest.held) p.guest.regs answer ≡ Next next (Some put))
+    → TurnFits (Some (done_of (Next next (Some put)))) × ((k : ℕ) (l : LockView) → lock_in p.locks k ≡ Some l → TurnReady (has p.guest.held) (Some (done_of (Next next (Some put)))) k l)
+store_may image block n p next put may acts =
     let d = thread_in (fuelled 1 p) in
-    let act = ap Some (is.act 0) in
-    let none = none_next image d refl (ap taken_by (is.act 0)) in
+    let act = ap Some (acts 0) in
+    let none = none_next image d refl (ap taken_by (acts 0)) in
     let covers : Covers image block d = record { held = may.held; next = λ k e. absurd (let no = sym none ∙ e in cc) } in (
-      turn_fits image d 0 (Some (Next g.regs (Some (put_of s)))) act may.guards,
-      λ k l found. turn_ready image block d 0 (Some (Next g.regs (Some (put_of s)))) act covers k l (may.of k l found) (λ h. may.opened k l.journal (ap (option_map journal_in) found) h),
+      turn_fits image d 0 (Some (Next next (Some put))) act may.guards,
+      λ k l found. turn_ready image block d 0 (Some (Next next (Some put))) act covers k l (may.of k l found) (λ h. may.opened k l.journal (ap (option_map journal_in) found) h),
     )
 
 -- ---- one turn more
@@ -120,6 +119,10 @@ run_more image block n f p mid last low run gone =
 -- what so many turns ask, fewer do
 pub may_less : (image : Shown) (block : ℕ → Bool) (m n : ℕ) (p : Context) → n ≤ m → MayRun image block m p → MayRun image block n p
 may_less image block m n p low may = record { guards = may.guards; of = may.of; held = may.held; opened = may.opened; room = λ k j at h. (let r = may.room k j at h in omega (arith, r, low)) }
+
+-- it asks the same of the locks that the thread holds
+pub may_held : (image : Shown) (block : ℕ → Bool) (n : ℕ) (p : Context) → MayRun image block n p → MayRun image (has p.guest.held) n p
+may_held image block n p may = record { guards = may.guards; of = may.of; held = λ k h. h; opened = λ k j at h. may.opened k j at (may.held k h); room = λ k j at h. may.room k j at (may.held k h) }
 
 -- what the turns that are left ask
 pub may_gone : (image : Shown) (block : ℕ → Bool) (n : ℕ) (p q : Context) → MayRun image block (suc n) p → IsGone image block p q → MayRun image block n q

@@ -6,7 +6,9 @@ ghost use Rattle.tc_isa.specs.Sets.{has};
 ghost use Rattle.tc_isa.specs.declared.limits.TheConstants.{MAX_TURNS};
 ghost use Rattle.tc_isa.specs.declared.held.TheConstants.Held.{PLACES};
 ghost use Rattle.tc_elf.specs.Places.{in_guard};
+ghost use Rattle.tc_elf.specs.declared.image.Region.TheVariants.{Private};
 ghost use Rattle.tc_exec.specs.Told.{IsWidth};
+ghost use Rattle.tc_exec.specs.declared.outcome.Want.TheVariants.{Load};
 ghost use Rattle.tc_turn.specs.Replay.{takes_word as takes};
 ghost use Rattle.tc_segment.specs.View.{closed_with, guard_of, lock_of, noted, opened_at, sealed_as, with_break, with_end, with_journal, with_section, with_store, HasRoomFor, LockView};
 ghost use Rattle.tc_mutex_spec.specs.Blocks.{locks_of_block};
@@ -201,7 +203,7 @@ impl LockSet {
     }
 
     /// As `note`, with a look at each lock.
-    /// Always inlined: it has two callers, one of which runs once a section.
+    /// Always inlined: it has few callers, one of which runs once a section.
     #[inline(always)]
     pub(crate) fn note_each(&mut self, held: Held, want: Want, next: Option<u32>, value: u32)
         requires opened { EachHeld (has held) (λ l. is_some l.journal.opened ≡ true) self.old }
@@ -213,6 +215,22 @@ impl LockSet {
             self.note_one(lock, want, next, value);
             left = left.less(lock);
         }
+    }
+
+    /// Notes a number of the thread's own memory in the entry of each of these locks. Any place that is
+    /// no guard says so.
+    #[inline(always)]
+    pub(crate) fn note_own(&mut self, held: Held, number: u32)
+        requires opened { EachHeld (has held) (λ l. is_some l.journal.opened ≡ true) self.old }
+        requires room { EachHeld (has held) (λ l. 0 < l.journal.word_room) self.old }
+        ensures { Changed (noted_in (has held) (Load Private 0 1) None number) self.old self.new }
+    {
+        let want = Want::Load {
+            region: Region::Private,
+            addr: 0,
+            width: 1,
+        };
+        self.note_each(held, want, None, number);
     }
 
     /// Notes the value in the entry of each of these locks for which it comes from elsewhere.

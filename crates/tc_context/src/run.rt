@@ -3,21 +3,23 @@
 //! They touch registers, the thread's own memory and the guards of its locks. A block is mostly a LOCK,
 //! one run of such turns, and one guest call.
 
-ghost use Rattle.std.specs.Prelude.{◌≡◌, ◌+◌, ◌%◌, ◌^◌, ◌≤◌, Ok};
+ghost use Rattle.std.specs.Prelude.{◌≡◌, ℕ, ◌≤◌, Bool, Ok};
 ghost use Rattle.tc_isa.specs.Sets.{has};
 ghost use Rattle.tc_exec.specs.Code.{IsTelling};
 ghost use Rattle.tc_exec.specs.Step.{instruction_at};
-ghost use Rattle.tc_turn.specs.Own.{IsAtLoad, put_of};
-ghost use Rattle.tc_context.specs.Run.{MayRun, IsGone, HasGone, HasStretched, HasRun};
+ghost use Rattle.tc_turn.specs.Own.{IsLoad, IsStore};
+ghost use Rattle.tc_context.specs.Run.{MayRun, HasGone, HasStretched, HasRun};
 
 use crate::context::Context;
 use tc_elf::image::{Image, Region};
 use tc_exec::code::{Code, Stretch};
+use tc_exec::execute::Effect;
 use tc_exec::outcome::{Done, Put, Want};
 use tc_isa::held::Held;
-use tc_isa::instr::Instr;
-use tc_turn::answer::answer;
-use tc_turn::own_turns::{GuardLoad, GuardStore, Step};
+use tc_isa::instr::{Instr, LoadKind, StoreKind};
+use tc_isa::reg::Reg;
+use tc_turn::answer::guard_number;
+use tc_turn::own_turns::{Loaded, Stored};
 
 /// Which way a thread went in a turn.
 #[derive(Clone, Copy)]
@@ -106,69 +108,134 @@ impl Context {
         Stretched { count, slot }
     }
 
-    /// What its next turn, which is of this instruction, does beside the fuel, where that is such a
-    /// turn, and which way it went: whatever fuel it has.
+    /// What its next step, which is of this instruction, does beside the fuel, where that is a step for
+    /// the loop, and which way it went: whatever fuel it has.
     #[inline(always)]
     fn step(&mut self, image: &Image, block: Held, instr: &Instr) -> Way
         requires instr { instruction_at image.now self.old.guest.regs.pc ≡ Ok instr.now }
         requires may { MayRun image.now (has block) 1 self.old }
         ensures { HasGone image.now (has block) self.old self.new result }
     {
-        match self.guest.step(image, instr) {
-            Step::Stays => Way::Stays,
-            Step::Next => Way::Next,
-            Step::Jumps => Way::Jumps,
-            Step::Loaded(number) => {
-                // A word for each lock, wherever its bytes are.
+        match self.guest.execute(instr) {
+            Effect::Went => Way::Next,
+            Effect::Jumped => Way::Jumps,
+            Effect::Load { kind, rd, addr } => self.load(image, block, kind, rd, addr),
+            Effect::Store { kind, addr, value } => self.store(image, kind, addr, value),
+            Effect::Call | Effect::Fault(_) => Way::Stays,
+        }
+    }
+
+    /// The step that is this load. Only what loads a word of the thread's own memory stands in the loop,
+    /// which so has the registers of the host for itself.
+    #[inline(always)]
+    fn load(&mut self, image: &Image, block: Held, kind: LoadKind, rd: Reg, addr: u32) -> Way
+        requires load { IsLoad image.now self.old.guest kind rd addr }
+        requires may { MayRun image.now (has block) 1 self.old }
+        ensures { HasGone image.now (has block) self.old self.new result }
+    {
+        match self.guest.load_word(image, kind, rd, addr) {
+            Some(number) => {
+                self.locks.note_own(block, number);
+                Way::Next
+            }
+            None => self.load_any(image, block, kind, rd, addr),
+        }
+    }
+
+    /// As `load`. Most loads are of words, for which it has code that knows the kind.
+    #[inline(never)]
+    fn load_any(&mut self, image: &Image, block: Held, kind: LoadKind, rd: Reg, addr: u32) -> Way
+        requires load { IsLoad image.now self.old.guest kind rd addr }
+        requires may { MayRun image.now (has block) 1 self.old }
+        ensures { HasGone image.now (has block) self.old self.new result }
+    {
+        match kind {
+            LoadKind::Lw => self.load_by(image, block, LoadKind::Lw, rd, addr),
+            _ => self.load_by(image, block, kind, rd, addr),
+        }
+    }
+
+    /// As `load`, in each of its callers.
+    #[inline(always)]
+    fn load_by(&mut self, image: &Image, block: Held, kind: LoadKind, rd: Reg, addr: u32) -> Way
+        requires load { IsLoad image.now self.old.guest kind rd addr }
+        requires may { MayRun image.now (has block) 1 self.old }
+        ensures { HasGone image.now (has block) self.old self.new result }
+    {
+        match self.guest.load(image, kind, rd, addr) {
+            Loaded::Stays => Way::Stays,
+            Loaded::Own(number) => {
+                self.locks.note_own(block, number);
+                Way::Next
+            }
+            Loaded::Guard { lock, width } => {
                 let want = Want::Load {
-                    region: Region::Private,
-                    addr: 0,
-                    width: 1,
+                    region: Region::Guard(lock),
+                    addr,
+                    width,
                 };
+                let number = guard_number(self, image, lock, addr, width);
                 self.locks.note_each(block, want, None, number);
-                Way::Next
-            }
-            Step::AtLoad(load) => {
-                self.guard_load(image, block, load);
-                Way::Next
-            }
-            Step::AtStore(store) => {
-                let held = self.guest.held();
-                let put = put_of(store);
-                self.locks.take_turn(held, &Some(Done::Stored(put)));
+                self.guest.finish(kind, rd, number);
                 Way::Next
             }
         }
     }
 
-    /// The turn that is this load from a guard. It is never inlined, so that the loop over turns has
-    /// the registers of the host for itself.
-    #[inline(never)]
-    fn guard_load(&mut self, image: &Image, block: Held, load: GuardLoad)
-        requires at { IsAtLoad image.now self.old.guest load }
-        requires may { MayRun image.now (has block) 1 self.old }
-        ensures gone { IsGone image.now (has block) self.old self.new }
-        ensures next { self.new.guest.regs.pc ≡ (self.old.guest.regs.pc + 4) % 2 ^ 32 }
+    /// The step that is this store. Only what stores a word in the thread's own memory stands in the
+    /// loop.
+    #[inline(always)]
+    fn store(&mut self, image: &Image, kind: StoreKind, addr: u32, value: u32) -> Way
+        requires store { IsStore image.now self.old.guest kind addr value }
+        requires may { MayRun image.now (has self.old.guest.held) 1 self.old }
+        ensures { (block : ℕ → Bool) → HasGone image.now block self.old self.new result }
     {
-        let want = Want::Load {
-            region: Region::Guard(load.lock),
-            addr: load.addr,
-            width: load.width,
-        };
-        let loaded = answer(self, image, want, None);
-        self.locks.note_each(block, want, None, loaded);
-        self.guest.finish(load.kind, load.rd, loaded);
+        if self.guest.store_word(image, kind, addr, value) {
+            Way::Next
+        } else {
+            self.store_any(image, kind, addr, value)
+        }
     }
-}
 
-/// What goes to memory by a store in a guard.
-fn put_of(store: GuardStore) -> Put
-    ensures { result ≡ put_of store }
-{
-    Put {
-        region: Region::Guard(store.lock),
-        addr: store.addr,
-        width: store.width,
-        value: store.number,
+    /// As `store`. Most stores are of words, for which it has code that knows the kind.
+    #[inline(never)]
+    fn store_any(&mut self, image: &Image, kind: StoreKind, addr: u32, value: u32) -> Way
+        requires store { IsStore image.now self.old.guest kind addr value }
+        requires may { MayRun image.now (has self.old.guest.held) 1 self.old }
+        ensures { (block : ℕ → Bool) → HasGone image.now block self.old self.new result }
+    {
+        match kind {
+            StoreKind::Sw => self.store_by(image, StoreKind::Sw, addr, value),
+            _ => self.store_by(image, kind, addr, value),
+        }
+    }
+
+    /// As `store`, in each of its callers.
+    #[inline(always)]
+    fn store_by(&mut self, image: &Image, kind: StoreKind, addr: u32, value: u32) -> Way
+        requires store { IsStore image.now self.old.guest kind addr value }
+        requires may { MayRun image.now (has self.old.guest.held) 1 self.old }
+        ensures { (block : ℕ → Bool) → HasGone image.now block self.old self.new result }
+    {
+        match self.guest.store(image, kind, addr, value) {
+            Stored::Stays => Way::Stays,
+            Stored::Own => Way::Next,
+            Stored::Guard {
+                lock,
+                width,
+                number,
+            } => {
+                let held = self.guest.held();
+                let put = Put {
+                    region: Region::Guard(lock),
+                    addr,
+                    width,
+                    value: number,
+                };
+                self.locks.take_turn(held, &Some(Done::Stored(put)));
+                self.guest.go_on();
+                Way::Next
+            }
+        }
     }
 }

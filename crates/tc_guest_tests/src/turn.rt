@@ -1,6 +1,7 @@
 use std::test::Fail;
 use tc_elf::load::load;
 use tc_exec::code::Code;
+use tc_exec::execute::Effect;
 use tc_exec::outcome::{Call, Done, Want};
 use tc_isa::held::Held;
 use tc_isa::reg::Reg;
@@ -48,15 +49,14 @@ fn turns_in_place_are_the_turns(rt: HostRuntime) -> Result<(), Fail> {
     let mut thread = GuestThread::start(rt.alloc(), &image, 100, 0)?;
     let first = code.find(thread.regs().pc()).expect(&rt, "decoded");
     assert!(rt; thread.load_wanted(&image, first) == Want::Nothing);
-    assert_eq!(rt; thread.run_own(&image, &code, 0, true).count, 0);
-    // ECALL touches no memory of its own.
-    let own = thread.run_own(&image, &code, 9, true);
-    assert_eq!(rt; own.count, 1);
-    assert!(rt; own.stop.is_some());
+    assert!(rt; matches!(thread.execute(first), Effect::Went));
     assert_eq!(rt; thread.regs().pc(), 0x10058);
+    // The loop over steps takes what they take of the fuel.
+    assert_eq!(rt; thread.fuel(), 100);
+    thread.spend(1);
     assert_eq!(rt; thread.fuel(), 99);
-    assert!(rt; thread.ahead(&image, &code, own.stop).lock.is_none());
     let call = code.find(thread.regs().pc()).expect(&rt, "decoded");
+    assert!(rt; thread.ahead(&image, &code, Some(call)).lock.is_none());
     let want = thread.load_wanted(&image, call);
     let last = thread.turn(&image, call, want, 0);
     assert!(rt; last == Some(Done::Called(Call::Exit)));

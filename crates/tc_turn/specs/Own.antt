@@ -1,27 +1,26 @@
--- Turns one by one, each done by a step.
-use Rattle.std.specs.Prelude.{◌≡◌, ℕ, ◌+◌, ◌-◌, ◌*◌, ◌%◌, ◌^◌, ◌<◌, List, [], ◌∷◌, None, Some, unwrap_or}
+-- Steps one at a time, each done in a loop.
+use Rattle.std.specs.Prelude.{◌≡◌, ℕ, ◌+◌, ◌-◌, ◌*◌, ◌%◌, ◌^◌, ◌<◌, List, [], None, unwrap_or}
 use Rattle.tc_isa.specs.Registers.{with_register}
 use Rattle.tc_isa.specs.Sets.{has}
 use Rattle.tc_isa.specs.declared.instr.LoadKind.{LoadKind}
 use Rattle.tc_isa.specs.declared.instr.StoreKind.{StoreKind}
 use Rattle.tc_elf.specs.Shown.{Shown}
-use Rattle.tc_elf.specs.declared.image.Region.TheVariants as region
-use Rattle.tc_exec.specs.Access.{load_width, store_width, extended}
-use Rattle.tc_exec.specs.Flow.{at_next, set}
+use Rattle.tc_exec.specs.Access.{load_width, store_width, extended, load_want, load, store}
+use Rattle.tc_exec.specs.Flow.{at_next}
 use Rattle.tc_exec.specs.Step.{act_of, wants_of}
 use Rattle.tc_exec.specs.Touch.{IsTouched}
-use Rattle.tc_exec.specs.declared.outcome.Act.TheVariants as act
-use Rattle.tc_exec.specs.declared.outcome.Put.{Put}
-use Rattle.tc_exec.specs.declared.outcome.Want.TheVariants as want
+use Rattle.tc_exec.specs.declared.execute.Effect.{Effect}
+use Rattle.tc_exec.specs.declared.execute.Effect.TheVariants as effect
+use Rattle.tc_exec.specs.declared.outcome.Want.TheVariants.{Nothing}
 use Rattle.tc_exec.specs.declared.touch.Touched.TheVariants as touched
 use Rattle.tc_journal.specs.declared.rule.Outcome.TheVariants.{Went}
 use Rattle.tc_turn.specs.Turn.{Thread, Mutex, Guest, thread_of, next_lock, next_act, outcome_of, thread_after, mutex_after}
 use Rattle.tc_turn.specs.Memory.{number_at, with_number}
 use Rattle.tc_turn.specs.Replay.{word_of}
-use Rattle.tc_turn.specs.declared.own_turns.GuardLoad.{GuardLoad}
-use Rattle.tc_turn.specs.declared.own_turns.GuardStore.{GuardStore}
-use Rattle.tc_turn.specs.declared.own_turns.Step.{Step}
-use Rattle.tc_turn.specs.declared.own_turns.Step.TheVariants.{Stays, Next, Jumps, Loaded, AtLoad, AtStore}
+use Rattle.tc_turn.specs.declared.own_turns.Loaded.{Loaded}
+use Rattle.tc_turn.specs.declared.own_turns.Loaded.TheVariants as loads
+use Rattle.tc_turn.specs.declared.own_turns.Stored.{Stored}
+use Rattle.tc_turn.specs.declared.own_turns.Stored.TheVariants as stores
 
 -- the number that a load of the thread's own memory finds
 abbrev pub own_number : Thread → ℕ → ℕ → ℕ
@@ -57,7 +56,7 @@ pub record IsOwnTurn (image : Shown) (ws : List ℕ) (d next : Thread) : Type 0 
   pub held : next.held ≡ d.held
   pub words : (locks : ℕ → Mutex) (k : ℕ) → word_of image k d locks ≡ ws
 
--- ---- what a step does
+-- ---- what an instruction does
 
 -- such a turn, whatever fuel there is, all but what it takes of the fuel
 pub record IsOwnStep (image : Shown) (ws : List ℕ) (old new : Guest) : Type 0 where
@@ -68,27 +67,24 @@ pub record IsOwnStep (image : Shown) (ws : List ℕ) (old new : Guest) : Type 0 
 abbrev pub IsOnward : Guest → Guest → Type 0
 IsOnward old new = new.regs.pc ≡ (old.regs.pc + 4) % 2 ^ 32
 
--- the next turn is this load from a guard
-pub record IsAtLoad (image : Shown) (g : Guest) (l : GuardLoad) : Type 0 where
-  pub want : wants_of image (has g.held) g.regs ≡ want.Load (region.Guard l.lock) l.addr l.width
-  pub act : (answer : ℕ) → act_of image (has g.held) g.regs answer ≡ set g.regs l.rd (extended l.kind answer)
+-- the next turn is this load
+pub record IsLoad (image : Shown) (g : Guest) (kind : LoadKind) (rd addr : ℕ) : Type 0 where
+  pub act : (answer : ℕ) → act_of image (has g.held) g.regs answer ≡ load image (has g.held) g.regs answer kind rd addr
+  pub want : wants_of image (has g.held) g.regs ≡ load_want image (has g.held) kind addr
 
-abbrev pub put_of : GuardStore → Put
-put_of s = record { region = region.Guard s.lock; addr = s.addr; width = s.width; value = s.number }
+-- it is this store
+pub record IsStore (image : Shown) (g : Guest) (kind : StoreKind) (addr value : ℕ) : Type 0 where
+  pub act : (answer : ℕ) → act_of image (has g.held) g.regs answer ≡ store image (has g.held) g.regs kind addr value
+  pub want : wants_of image (has g.held) g.regs ≡ Nothing
 
--- it was this store in a guard, and the registers have it already
-pub record IsAtStore (image : Shown) (old new : Guest) (s : GuardStore) : Type 0 where
-  pub want : wants_of image (has old.held) old.regs ≡ want.Nothing
-  pub act : (answer : ℕ) → act_of image (has old.held) old.regs answer ≡ act.Next new.regs (Some (put_of s))
-  pub rest : new ≡ record old { regs = new.regs }
-
-abbrev pub HasStepped : Shown → Guest → Guest → Step → Type 0
-HasStepped image old new Stays = new ≡ old
-HasStepped image old new Next = IsOwnStep image [] old new × IsOnward old new
-HasStepped image old new Jumps = IsOwnStep image [] old new
-HasStepped image old new (Loaded number) = IsOwnStep image (number ∷ []) old new × IsOnward old new
-HasStepped image old new (AtLoad l) = (new ≡ old) × IsAtLoad image old l
-HasStepped image old new (AtStore s) = IsAtStore image old new s × IsOnward old new
+-- an instruction of this effect was done, but for a load or a store, which is told
+abbrev pub HasExecuted : Shown → Guest → Guest → Effect → Type 0
+HasExecuted image old new effect.Went = IsOwnStep image [] old new × IsOnward old new
+HasExecuted image old new effect.Jumped = IsOwnStep image [] old new
+HasExecuted image old new (effect.Load kind rd addr) = (new ≡ old) × IsLoad image old kind rd addr
+HasExecuted image old new (effect.Store kind addr value) = (new ≡ old) × IsStore image old kind addr value
+HasExecuted image old new effect.Call = new ≡ old
+HasExecuted image old new (effect.Fault f) = new ≡ old
 
 -- ---- loads and stores
 
@@ -98,31 +94,30 @@ pub record IsOwnLoad (image : Shown) (kind : LoadKind) (rd addr : ℕ) (old new 
   pub number : n ≡ own_number (thread_of old) addr (load_width kind)
   pub after : thread_of new ≡ loaded kind rd addr (thread_of old)
 
--- the bytes are of a guard, and the load is this
-pub record IsGuardLoad (image : Shown) (kind : LoadKind) (rd addr : ℕ) (old new : Guest) (l : GuardLoad) : Type 0 where
-  pub guard : IsTouched image (has old.held) addr (load_width kind) (touched.Guard l.lock)
-  pub load : l ≡ record { lock = l.lock; addr = addr; width = load_width kind; kind = kind; rd = rd }
+-- so many bytes are of a guard, and nothing was done yet
+pub record IsGuardLoad (image : Shown) (kind : LoadKind) (addr : ℕ) (old new : Guest) (lock bytes : ℕ) : Type 0 where
+  pub guard : IsTouched image (has old.held) addr (load_width kind) (touched.Guard lock)
+  pub width : bytes ≡ load_width kind
   pub rest : new ≡ old
 
-abbrev pub HasLoaded : Shown → LoadKind → ℕ → ℕ → Guest → Guest → Step → Type 0
-HasLoaded image kind rd addr old new Stays = new ≡ old
-HasLoaded image kind rd addr old new (Loaded number) = IsOwnLoad image kind rd addr old new number
-HasLoaded image kind rd addr old new (AtLoad l) = IsGuardLoad image kind rd addr old new l
-HasLoaded image kind rd addr old new _ = ⊥
+abbrev pub HasLoaded : Shown → LoadKind → ℕ → ℕ → Guest → Guest → Loaded → Type 0
+HasLoaded image kind rd addr old new loads.Stays = new ≡ old
+HasLoaded image kind rd addr old new (loads.Own n) = IsOwnLoad image kind rd addr old new n
+HasLoaded image kind rd addr old new (loads.Guard lock width) = IsGuardLoad image kind addr old new lock width
 
 -- the bytes are its own, and it stored them
 pub record IsOwnStore (image : Shown) (kind : StoreKind) (addr value : ℕ) (old new : Guest) : Type 0 where
   pub own : IsTouched image (has old.held) addr (store_width kind) touched.Own
   pub after : thread_of new ≡ stored kind addr value (thread_of old)
 
--- the bytes are of a guard, and the store is this
-pub record IsGuardStore (image : Shown) (kind : StoreKind) (addr value : ℕ) (old new : Guest) (s : GuardStore) : Type 0 where
-  pub guard : IsTouched image (has old.held) addr (store_width kind) (touched.Guard s.lock)
-  pub store : s ≡ record { lock = s.lock; addr = addr; width = store_width kind; number = value % 2 ^ (8 * store_width kind) }
-  pub rest : new ≡ record old { regs = at_next old.regs }
+-- so many bytes are of a guard, and this number is to be in them
+pub record IsGuardStore (image : Shown) (kind : StoreKind) (addr value : ℕ) (old new : Guest) (lock bytes n : ℕ) : Type 0 where
+  pub guard : IsTouched image (has old.held) addr (store_width kind) (touched.Guard lock)
+  pub width : bytes ≡ store_width kind
+  pub number : n ≡ value % 2 ^ (8 * store_width kind)
+  pub rest : new ≡ old
 
-abbrev pub HasStored : Shown → StoreKind → ℕ → ℕ → Guest → Guest → Step → Type 0
-HasStored image kind addr value old new Stays = new ≡ old
-HasStored image kind addr value old new Next = IsOwnStore image kind addr value old new
-HasStored image kind addr value old new (AtStore s) = IsGuardStore image kind addr value old new s
-HasStored image kind addr value old new _ = ⊥
+abbrev pub HasStored : Shown → StoreKind → ℕ → ℕ → Guest → Guest → Stored → Type 0
+HasStored image kind addr value old new stores.Stays = new ≡ old
+HasStored image kind addr value old new stores.Own = IsOwnStore image kind addr value old new
+HasStored image kind addr value old new (stores.Guard lock width number) = IsGuardStore image kind addr value old new lock width number

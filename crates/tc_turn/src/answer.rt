@@ -2,6 +2,7 @@
 
 ghost use Rattle.std.specs.Prelude.{◌≡◌, ℕ, unwrap_or};
 ghost use Rattle.tc_elf.specs.Shown.{guard_at};
+ghost use Rattle.tc_elf.specs.declared.image.Region.TheVariants.{Guard};
 ghost use Rattle.tc_exec.specs.Told.{IsWant};
 ghost use Rattle.tc_turn.specs.Memory.{IsAccess, number_at, starting_byte};
 ghost use Rattle.tc_turn.specs.Turn.{byte_at, answer_to};
@@ -73,6 +74,16 @@ fn guard_start(image: &Image, lock: u32) -> u32
     image.guard(lock).0
 }
 
+/// The number in so many bytes of a lock's guard from an address on, the lowest first.
+#[inline(always)]
+pub fn guard_number<S: Surroundings>(at: &S, image: &Image, lock: u32, addr: u32, width: u32) -> u32
+    requires { IsAccess addr width }
+    ensures { result
+        ≡ number_at (byte_at image.now (S.thread at.now).own (S.locks at.now) (Guard lock)) addr width }
+{
+    number_from(guard_start(image, lock), at.guard(lock), addr, width)
+}
+
 /// The number in so many bytes of a place from an address on, the lowest first.
 #[tactic(auto, using(crate::proofs::Numbers::number_nothing))]
 fn number<S: Surroundings>(at: &S, image: &Image, region: Region, addr: u32, width: u32) -> u32
@@ -83,9 +94,7 @@ fn number<S: Surroundings>(at: &S, image: &Image, region: Region, addr: u32, wid
     match region {
         Region::Text => text_number(image, addr, width),
         Region::Private | Region::Stack => at.own_number(addr, width),
-        Region::Guard(lock) => {
-            number_from(guard_start(image, lock), at.guard(lock), addr, width)
-        }
+        Region::Guard(lock) => guard_number(at, image, lock, addr, width),
         Region::Nothing => 0,
     }
 }
