@@ -243,6 +243,11 @@ module _ {image : Shown} {block : ℕ → Bool} {old : Context} (may : MayTurn i
       let e = add-one n in
       subst (Partway image block old now) e (partway_more on.1 on.2 ((λ i. end_rule (on.3 i) (e i) (none i)) ∙ no_cut (suc n) lt))
 
+  -- before the first turn no LOCK follows
+  pub on_first : (n : ℕ) (now : Context) → IsOn image block old now n → n ≡ 0 → next_lock image (thread_in now) ≡ None
+  on_first zero now on none = ap (λ (p : Context). next_lock image (thread_in p)) on.0 ∙ on.1
+  on_first (suc n) now on none = absurd (omega (arith, none))
+
   pub on_run : (c n : ℕ) (now new : Context) → IsOn image block old now c → c + n ≤ MAX_TURNS → GoesOn image block n now new → IsOn image block old new (c + n)
   on_run c zero now new on most goes = subst (λ (x : Context × ℕ). IsOn image block old x.0 x.1) (let e : c ≡ c + 0 = omega arith in λ i. (goes i, e i)) on
   on_run c (suc n) now new on most goes =

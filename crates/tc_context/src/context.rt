@@ -8,6 +8,7 @@ ghost use Rattle.tc_exec.specs.declared.outcome.Call.TheVariants.{Lock};
 ghost use Rattle.tc_exec.specs.declared.outcome.Done.TheVariants.{Called};
 ghost use Rattle.tc_journal.specs.Rule.{end_rule};
 ghost use Rattle.tc_journal.specs.declared.rule.Outcome.TheVariants.{Went};
+ghost use Rattle.tc_exec.specs.Next.{KnowsCode};
 ghost use Rattle.tc_exec.specs.Step as step;
 ghost use Rattle.tc_turn.specs.Ahead.{IsAhead};
 ghost use Rattle.tc_turn.specs.InPlace.{faulted_if};
@@ -19,7 +20,7 @@ ghost use Rattle.tc_context.specs.Ran.{slept_by as slept_of_turn};
 use crate::locks::LockSet;
 use std::alloc::{AllocError, Global};
 use tc_elf::image::Image;
-use tc_exec::code::Code;
+use tc_exec::code::{Ahead, Code};
 use tc_exec::outcome::{Call, Done, Want};
 use tc_exec::step::instruction_at;
 use tc_isa::fault::Fault;
@@ -183,6 +184,29 @@ impl Context {
         fueled
     }
 
+    /// What is ahead behind so many turns of a block, whose instruction is this where it is known. It is
+    /// no LOCK before the first one.
+    #[inline(always)]
+    fn ahead<'a>(
+        &self,
+        image: &Image,
+        code: &'a Code,
+        count: u32,
+        known: Option<&'a Instr>,
+    ) -> Ahead<'a>
+        requires known { KnowsCode image.now code.now self.now.guest.regs.pc known }
+        requires first { count ≡ 0 → next_lock image.now (thread_in self.now) ≡ None }
+        ensures { IsAhead image.now (thread_in self.now) result }
+    {
+        if count == 0 {
+            return Ahead {
+                lock: None,
+                instr: known,
+            };
+        }
+        self.guest.ahead(image, code, known)
+    }
+
     /// Runs the turns of one block with these locks, whose entries are open. `takes` is the lock
     /// that the first turn takes: no other turn takes one, since a block ends before it.
     fn turns(&mut self, image: &Image, code: &Code, block: Held, takes: Option<u32>) -> Turns
@@ -199,7 +223,7 @@ impl Context {
             // What is ahead is asked once, where the run stops: no turn of it is a guest call.
             let run = self.run(image, code, block, MAX_TURNS - count);
             count += run.count;
-            let ahead = self.guest.ahead(image, code, run.stop);
+            let ahead = self.ahead(image, code, count, run.stop);
             if let Some(end) = end_of(Outcome::Went, count, ahead.lock) {
                 return ended(end, count, 0, ahead.lock);
             }

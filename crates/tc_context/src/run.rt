@@ -92,9 +92,9 @@ impl Context {
         requires may { MayRun image.now (has block) most self.old }
         ensures { HasStretched image.now (has block) most stretch.now self.old self.new result }
     {
-        let mut count = 0;
+        let mut left = most;
         let mut slot = stretch.slot(self.guest.regs().pc());
-        'run: while count < most {
+        'run: while left > 0 {
             let Some(instr) = stretch.find(slot) else {
                 break;
             };
@@ -103,9 +103,12 @@ impl Context {
                 Way::Next => slot += 1,
                 Way::Jumps => slot = stretch.slot(self.guest.regs().pc()),
             }
-            count += 1;
+            left -= 1;
         }
-        Stretched { count, slot }
+        Stretched {
+            count: most - left,
+            slot,
+        }
     }
 
     /// What its next step, which is of this instruction, does beside the fuel, where that is a step for

@@ -1,4 +1,4 @@
-use Rattle.std.proofs.Common.{◌≡◌, suc, ◌+◌, ◌-◌, ap, subst, ◌∙◌, arith}
+use Rattle.std.proofs.Common.{◌≡◌, suc, ◌-◌, refl, ap, subst, ◌∙◌, arith}
 use Rattle.tc_isa.specs.Registers.{Registers}
 use Rattle.tc_context.proofs.Vocabulary.{has, GoesOn}
 use Rattle.tc_context.specs.Run.{MayRun, IsGone, HasGone, fuelled}
@@ -7,7 +7,7 @@ use Rattle.tc_context.proofs.context.Context.run_stretch.Goals as goal
 use Rattle.tc_context.proofs.context.Context.run_stretch.Goals.{in-Next, in-Jumps}
 
 pub step-requires-clause-may : goal.step-requires-clause-may
-step-requires-clause-may c = may_less c.args.image.now (has c.args.block) (c.args.most - c.run.count) 1 c.run.self (omega (arith, c.run-test.true)) c.run.invariant.may
+step-requires-clause-may c = may_less c.args.image.now (has c.args.block) c.run.left 1 c.run.self (omega (arith, c.run-test.true)) c.run.invariant.may
 
 pub run-preserved : goal.run-preserved
 run-preserved c =
@@ -20,15 +20,29 @@ run-preserved c =
       | in-Next w ↦ (subst (HasGone image block c.run.self new) w.in-Next.is c.step.ensures).0
       | in-Jumps w ↦ subst (HasGone image block c.run.self new) w.in-Jumps.is c.step.ensures
     ] in
-    let more : suc c.run.count ≡ c.run.count + 1 = omega arith in
-    let left : c.args.most - c.run.count ≡ suc (c.args.most - (c.run.count + 1)) = omega (arith, c.run-test.true) in
+    let count = c.args.most - c.run.left in
+    let more : suc count ≡ c.args.most - (c.run.left - 1) = omega (arith, c.run-test.true, now.most) in
+    let left : c.run.left ≡ suc (c.run.left - 1) = omega (arith, c.run-test.true) in
     record {
-      runs = subst (λ n. GoesOn image block n first (fuelled (first.guest.fuel - n) new)) more (run_more image block c.run.count first.guest.fuel first c.run.self new (omega (arith, c.run-test.true, c.requires.fuel)) now.runs gone);
+      runs = subst (λ n. GoesOn image block n first (fuelled (first.guest.fuel - n) new)) more (run_more image block count first.guest.fuel first c.run.self new (omega (arith, c.run-test.true, now.most, c.requires.fuel)) now.runs gone);
       fuel = gone.fuel ∙ now.fuel;
-      most = omega (arith, c.run-test.true);
+      most = omega (arith, now.most);
       slot = elim c.match-step.branch [
         | in-Next w ↦ λ low. omega (arith, low, w.slot-is, (subst (HasGone image block c.run.self new) w.in-Next.is c.step.ensures).1, now.slot c.in-Some.ensures.known, c.requires.telling.fits)
         | in-Jumps w ↦ λ low. omega (arith, w.slot-is, w.slot-slot-in-Jumps.ensures (omega (arith, low, w.slot-is)), w.pc-in-Jumps.ensures.value, ap (λ (r : Registers). r.pc) w.regs-in-Jumps.ensures)
       ];
-      may = may_gone image block (c.args.most - (c.run.count + 1)) c.run.self new (subst (λ n. MayRun image block n c.run.self) left now.may) gone;
+      may = may_gone image block (c.run.left - 1) c.run.self new (subst (λ n. MayRun image block n c.run.self) left now.may) gone;
+    }
+
+pub run-init : goal.run-init
+run-init c =
+    let first = c.args.self.now in
+    let none : 0 ≡ c.args.most - c.args.most = omega arith in
+    let all : first.guest.fuel ≡ first.guest.fuel - 0 = omega arith in
+    record {
+      runs = subst (λ n. GoesOn c.args.image.now (has c.args.block) n first (fuelled (first.guest.fuel - n) first)) none (ap (λ n. fuelled n first) all);
+      fuel = refl;
+      most = omega arith;
+      slot = λ low. omega (arith, low, c.slot-slot.ensures (omega (arith, low)), c.pc.ensures.value, ap (λ (r : Registers). r.pc) c.regs.ensures);
+      may = c.requires.may;
     }

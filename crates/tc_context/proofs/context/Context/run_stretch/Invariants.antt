@@ -6,12 +6,12 @@ use Rattle.tc_context.proofs.context.Context.run_stretch.Given as goal
 
 abbrev pub invariant-run : goal.invariant-run
 invariant-run l = record {
-  runs : GoesOn l.image (has l.block) l.count l.fn.self (fuelled (l.fn.self.guest.fuel - l.count) l.self);
+  runs : GoesOn l.image (has l.block) (l.most - l.left) l.fn.self (fuelled (l.fn.self.guest.fuel - (l.most - l.left)) l.self);
   fuel : l.self.guest.fuel ≡ l.fn.self.guest.fuel;
-  most : l.count ≤ l.most;
+  most : l.left ≤ l.most;
   slot : l.slot < length l.stretch.slots.now → l.stretch.start + 4 * l.slot ≡ l.self.guest.regs.pc;
-  may : MayRun l.image (has l.block) (l.most - l.count) l.self;
+  may : MayRun l.image (has l.block) l.left l.self;
 }
 
 abbrev pub decreases-run : goal.decreases-run
-decreases-run l = l.most - l.count
+decreases-run l = l.left

@@ -2,12 +2,18 @@ use Rattle.std.proofs.Common.{◌+◌, ◌≤◌, ◌∙◌, ap, sym, subst, ari
 use Rattle.tc_context.proofs.Vocabulary.{has, MAX_TURNS}
 use Rattle.tc_journal.specs.Rule.{end_rule}
 use Rattle.tc_context.specs.Block.{DidTurns}
-use Rattle.tc_context.proofs.Partway.{partway_start, went_lock, on_run, on_may, on_ends, on_goes, may_here, told_ends, told_on}
+use Rattle.tc_context.proofs.Partway.{partway_start, went_lock, on_first, on_run, on_may, on_ends, on_goes, may_here, told_ends, told_on}
 use Rattle.tc_context.proofs.context.Context.turns.Goals as goal
 use Rattle.tc_context.proofs.context.Context.turns.Goals.{in-Some, in_default}
 
 pub run-run-requires-clause-may : goal.run-run-requires-clause-may
 run-run-requires-clause-may c = on_may c.requires.may c.block.count c.block.self c.block.invariant.on
+
+pub ahead-ahead-requires-clause-first : goal.ahead-ahead-requires-clause-first
+ahead-ahead-requires-clause-first c =
+    let run = c.run-run in
+    on_first c.requires.may (c.block.count + run.result.count) run.new.self
+    (on_run c.requires.may c.block.count run.result.count c.block.self run.new.self c.block.invariant.on (let most = run.ensures.most in let before = c.block.invariant.most in omega arith) run.ensures.runs)
 
 -- behind the run
 pub returns-in-Some-end_of : goal.returns-in-Some-end_of
