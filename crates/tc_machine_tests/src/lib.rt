@@ -1,12 +1,12 @@
 //! Tests of the abstract machines, on public calls alone.
 //!
-//! `mutex_spec` runs the mutex machine, and upgrades old histories. `core` performs events of the
+//! `mutex_spec` runs the mutex machine, and upgrades old histories. `events` performs events of the
 //! delegation machine and compares the places of threads and locks. `told` compares what the events
 //! write. `guests` has their guests, as words.
 #![tactic(auto)]
 
 #[cfg(test)]
-mod core;
+mod events;
 #[cfg(test)]
 mod guests;
 #[cfg(test)]
