@@ -2,14 +2,13 @@
 //! 2.40 and by LLVM 14, which agree, from text that was written from the description of the guest;
 //! readelf finds the headers and the note of the smallest file as described.
 
-ghost use Rattle.std.specs.Prelude.{◌≤◌};
-ghost use Rattle.tc_build.specs.declared.generate.TheConstants.{MAX_ROUNDS};
-
-use crate::parts::{check_guards, check_ranges, check_threads};
+use crate::parts::{check_bytes, check_guards, check_ranges, check_threads, check_words};
 use std::alloc::{AllocError, Global};
+use std::process::Abort;
 use std::test::Fail;
 use tc_build::build::{MAX_CODE_WORDS, MAX_FILL, build};
 use tc_build::generate::generate;
+use tc_elf::image::Image;
 use tc_elf::load::load;
 
 /// The code of one round of each thread.
@@ -51,10 +50,18 @@ fn checksum(bytes: &[u8]) -> u32 {
     sum
 }
 
+/// Asserts that an image has two ranges: code of this length in bytes at 0x00100000, and data at
+/// 0x00020000.
+fn check_code_and_data<R: Abort>(rt: &R, image: &Image, code: u32, data: u32) {
+    let code = (0x0010_0000, code, false, true);
+    let data = (0x0002_0000, data, true, false);
+    check_ranges(rt, image, &[code, data]);
+}
+
 #[test]
 fn one_round_is_loaded_as_other_tools_write_it(rt: HostRuntime) -> Result<(), Fail> {
     let file = generate(rt.alloc(), 1)?;
-    assert_eq!(rt; file.len(), 524);
+    assert!(rt; file.len() == 524);
     let image = load(rt.alloc(), &file)?;
     let entries = [
         (0x0010_0000, 0),
@@ -70,67 +77,98 @@ fn one_round_is_loaded_as_other_tools_write_it(rt: HostRuntime) -> Result<(), Fa
         (0x0002_0030, 16),
     ];
     check_guards(&rt, &image, &guards);
-    check_ranges(&rt, &image, 216, 64);
+    check_code_and_data(&rt, &image, 216, 64);
+    Ok(())
+}
+
+#[test]
+fn one_round_has_the_words_that_other_tools_write(rt: HostRuntime) -> Result<(), Fail> {
+    let file = generate(rt.alloc(), 1)?;
+    let image = load(rt.alloc(), &file)?;
     for (i, word) in ONE_ROUND.iter().enumerate() {
-        let pc = 0x0010_0000 + 4 * i as u32;
-        assert_eq!(rt; image.fetch(pc), Some(*word), "at {pc}");
+        check_words(&rt, &image, &[(0x0010_0000 + 4 * i as u32, Some(*word))]);
     }
     assert!(rt; image.bytes(0x0002_0030, 8) == Some([0, 0, 0, 0, 0xe8, 3, 0, 0].as_slice()));
     Ok(())
 }
 
-/// The length and the checksum of a file of the generator.
-fn outline(alloc: Global, rounds: u32) -> Result<(usize, u32), AllocError>
-    requires some { 1 ≤ rounds }
-    requires most { rounds ≤ MAX_ROUNDS }
-{
-    let file = generate(alloc, rounds)?;
-    Ok((file.len(), checksum(&file)))
-}
-
 #[test]
 fn files_are_as_other_tools_write_them(rt: HostRuntime) -> Result<(), Fail> {
-    assert_eq!(rt; outline(rt.alloc(), 1)?, (524, 0xe32f_c760));
-    assert_eq!(rt; outline(rt.alloc(), 36)?, (6_404, 0x30f6_7568));
-    assert_eq!(rt; outline(rt.alloc(), 2_000)?, (336_356, 0xd101_612f));
+    for (rounds, length, sum) in [
+        (1, 524, 0xe32f_c760),
+        (36, 6_404, 0x30f6_7568),
+        (2_000, 336_356, 0xd101_612f),
+    ] {
+        let file = generate(rt.alloc(), rounds)?;
+        assert!(rt;
+            file.len() == length && checksum(&file) == sum,
+            "{rounds} rounds"
+        );
+    }
     Ok(())
+}
+
+/// `addi x17,x0,93` and `ecall`.
+const EXIT: [u32; 2] = [0x05d0_0893, 0x0000_0073];
+
+/// Two threads begin at them.
+const ENTRIES: [(u32, u32); 2] = [(0x0010_0000, 7), (0x0010_0004, 0xffff_ffff)];
+
+const GUARDS: [(u32, u32); 3] = [(0x0002_0000, 4), (0x0002_0004, 8), (0x0002_000c, 12)];
+
+/// The file of these.
+fn built(alloc: Global) -> Result<Vec<u8>, AllocError> {
+    build(
+        alloc,
+        &EXIT,
+        &ENTRIES,
+        b"abcdefghijklmnopqrstuvwxy",
+        &GUARDS,
+    )
 }
 
 #[test]
 fn a_built_file_is_loaded_as_described(rt: HostRuntime) -> Result<(), Fail> {
-    // `addi x17,x0,93` and `ecall`, at which two threads begin.
-    let code = [0x05d0_0893, 0x0000_0073];
-    let entries = [(0x0010_0000, 7), (0x0010_0004, 0xffff_ffff)];
-    let fill = b"abcdefghijklmnopqrstuvwxy".as_slice();
-    let guards = [(0x0002_0000, 4), (0x0002_0004, 8), (0x0002_000c, 12)];
-    let file = build(rt.alloc(), &code, &entries, fill, &guards)?;
-    assert_eq!(rt; file.len(), 253);
+    let file = built(rt.alloc())?;
+    assert!(rt; file.len() == 253);
     let image = load(rt.alloc(), &file)?;
-    check_threads(&rt, &image, &entries);
-    check_guards(&rt, &image, &guards);
-    check_ranges(&rt, &image, 8, 25);
-    for (pc, word) in [
-        (0x0010_0000, Some(0x05d0_0893)),
-        (0x0010_0004, Some(0x0000_0073)),
-        (0x0010_0008, None),
-        (0x0002_0000, None),
-    ] {
-        assert_eq!(rt; image.fetch(pc), word, "at {pc}");
-    }
-    for (addr, byte) in [
-        (0x000f_ffff, None),
-        (0x0010_0000, Some(0x93)),
-        (0x0010_0003, Some(0x05)),
-        (0x0010_0004, Some(0x73)),
-        (0x0010_0008, None),
-        (0x0001_ffff, None),
-        (0x0002_0000, Some(b'a')),
-        (0x0002_000c, Some(b'm')),
-        (0x0002_0018, Some(b'y')),
-        (0x0002_0019, None),
-    ] {
-        assert_eq!(rt; image.byte(addr), byte, "at {addr}");
-    }
+    check_threads(&rt, &image, &ENTRIES);
+    check_guards(&rt, &image, &GUARDS);
+    check_code_and_data(&rt, &image, 8, 25);
+    Ok(())
+}
+
+#[test]
+fn a_built_file_has_its_words_and_bytes(rt: HostRuntime) -> Result<(), Fail> {
+    let file = built(rt.alloc())?;
+    assert!(rt; file.len() == 253);
+    let image = load(rt.alloc(), &file)?;
+    check_words(
+        &rt,
+        &image,
+        &[
+            (0x0010_0000, Some(0x05d0_0893)),
+            (0x0010_0004, Some(0x0000_0073)),
+            (0x0010_0008, None),
+            (0x0002_0000, None),
+        ],
+    );
+    check_bytes(
+        &rt,
+        &image,
+        &[
+            (0x000f_ffff, None),
+            (0x0010_0000, Some(0x93)),
+            (0x0010_0003, Some(0x05)),
+            (0x0010_0004, Some(0x73)),
+            (0x0010_0008, None),
+            (0x0001_ffff, None),
+            (0x0002_0000, Some(b'a')),
+            (0x0002_000c, Some(b'm')),
+            (0x0002_0018, Some(b'y')),
+            (0x0002_0019, None),
+        ],
+    );
     Ok(())
 }
 
@@ -138,13 +176,13 @@ fn a_built_file_is_loaded_as_described(rt: HostRuntime) -> Result<(), Fail> {
 fn builds_up_to_the_limits(rt: HostRuntime) -> Result<(), Fail> {
     let mut code = Vec::new(rt.alloc());
     code.resize(200_000, 0x0000_0073)?;
-    assert_eq!(rt; code.len(), MAX_CODE_WORDS);
+    assert!(rt; code.len() == MAX_CODE_WORDS);
     let mut fill = Vec::new(rt.alloc());
     fill.resize(65_536, b'x')?;
-    assert_eq!(rt; fill.len(), MAX_FILL);
+    assert!(rt; fill.len() == MAX_FILL);
     let file = build(rt.alloc(), &code, &[(0x001c_34fc, 0)], &fill, &[])?;
     let image = load(rt.alloc(), &file)?;
     check_threads(&rt, &image, &[(0x001c_34fc, 0)]);
-    check_ranges(&rt, &image, 800_000, 65_536);
+    check_code_and_data(&rt, &image, 800_000, 65_536);
     Ok(())
 }

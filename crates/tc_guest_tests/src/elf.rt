@@ -1,7 +1,8 @@
-use crate::parts::{check_guards, check_threads};
+use crate::parts::{check_bytes, check_guards, check_ranges, check_threads, check_words};
 use std::alloc::{AllocError, Global};
+use std::process::Abort;
 use std::test::Fail;
-use tc_elf::image::Region;
+use tc_elf::image::{Image, Region};
 use tc_elf::limits::MAX_FILE;
 use tc_elf::load::load;
 use tc_elf::refusal::Refusal;
@@ -71,16 +72,26 @@ fn refused(alloc: Global, bytes: &[u8]) -> u32 {
     }
 }
 
+/// The image of the linked file.
+fn linked(alloc: Global) -> Result<Image, Fail> {
+    let bytes = file(alloc, &LINKED, &[])?;
+    Ok(load(alloc, &bytes[..bytes.len().min(MAX_FILE)])?)
+}
+
 #[test]
-fn loads_a_linked_file(rt: HostRuntime) -> Result<(), Fail> {
-    let bytes = file(rt.alloc(), &LINKED, &[])?;
-    assert!(rt; bytes.len() <= MAX_FILE);
-    let image = load(rt.alloc(), &bytes)?;
+fn a_linked_file_has_its_threads_guards_and_ranges(rt: HostRuntime) -> Result<(), Fail> {
+    let image = linked(rt.alloc())?;
     check_threads(&rt, &image, &[(0x10130, 7), (0x10134, 9)]);
     check_guards(&rt, &image, &[(0x20010, 16)]);
-    assert_eq!(rt; image.ranges(), 2);
-    assert_eq!(rt; image.range(0), (0x10000, 312, false, true));
-    assert_eq!(rt; image.range(1), (0x20000, 32, true, false));
+    let code = (0x10000, 312, false, true);
+    let data = (0x20000, 32, true, false);
+    check_ranges(&rt, &image, &[code, data]);
+    Ok(())
+}
+
+#[test]
+fn a_linked_file_has_its_regions(rt: HostRuntime) -> Result<(), Fail> {
+    let image = linked(rt.alloc())?;
     for (addr, width, region) in [
         (0x10134, 4, Region::Text),
         (0x10138, 1, Region::Nothing),
@@ -90,41 +101,67 @@ fn loads_a_linked_file(rt: HostRuntime) -> Result<(), Fail> {
         (0x7fff_ffff, 1, Region::Stack),
         (0x7fff_fffe, 4, Region::Nothing),
     ] {
-        assert_eq!(rt; image.region(addr, width), region, "at {addr}");
+        assert!(rt; image.region(addr, width) == region, "at {addr}");
     }
-    assert_eq!(rt; image.fetch(0x10134), Some(0x73));
-    assert_eq!(rt; image.fetch(0x10136), None);
-    for (addr, byte) in [
-        (0x10000, Some(0x7f)),
-        (0x20001, Some(0xab)),
-        (0x2001f, Some(0)),
-        (0x20020, None),
-    ] {
-        assert_eq!(rt; image.byte(addr), byte, "at {addr}");
-    }
+    Ok(())
+}
+
+#[test]
+fn a_linked_file_has_its_bytes(rt: HostRuntime) -> Result<(), Fail> {
+    let image = linked(rt.alloc())?;
+    check_bytes(
+        &rt,
+        &image,
+        &[
+            (0x10000, Some(0x7f)),
+            (0x20001, Some(0xab)),
+            (0x20020, None),
+        ],
+    );
     for addr in 0x20004..0x20020 {
-        assert_eq!(rt;
-            image.byte(addr),
-            Some(0),
-            "behind the file's bytes, at {addr}"
-        );
+        check_bytes(&rt, &image, &[(addr, Some(0))]);
     }
+    Ok(())
+}
+
+#[test]
+fn a_linked_file_has_its_words(rt: HostRuntime) -> Result<(), Fail> {
+    let image = linked(rt.alloc())?;
+    check_words(&rt, &image, &[(0x10134, Some(0x73)), (0x10136, None)]);
     assert!(rt; image.bytes(0x20000, 2) == Some([0xcd, 0xab].as_slice()));
     assert!(rt; image.bytes(0x2001f, 2).is_none());
     Ok(())
 }
 
+/// Asserts that a file of these words with one of them changed is refused by this number, or with
+/// 0 is loaded.
+fn check_change<R: Abort>(
+    rt: &R,
+    alloc: Global,
+    words: &[u32],
+    case: &(usize, u32, u32),
+) -> Result<(), AllocError> {
+    let (at, value, number) = *case;
+    let bytes = file(alloc, words, &[(at, value)])?;
+    assert!(rt; refused(alloc, &bytes) == number, "word {at} is {value}");
+    Ok(())
+}
+
 #[test]
-fn refuses_the_smallest_file_changed(rt: HostRuntime) -> Result<(), Fail> {
+fn refuses_the_smallest_file_cut(rt: HostRuntime) -> Result<(), Fail> {
     let whole = file(rt.alloc(), &SMALLEST, &[])?;
     for (length, number) in [(0, 1), (51, 1), (52, 7), (83, 7), (84, 9), (91, 9), (92, 0)] {
         let count = whole.len().min(length);
-        assert_eq!(rt;
-            refused(rt.alloc(), &whole[..count]),
-            number,
+        assert!(rt;
+            refused(rt.alloc(), &whole[..count]) == number,
             "the first {length} bytes"
         );
     }
+    Ok(())
+}
+
+#[test]
+fn refuses_the_smallest_file_changed(rt: HostRuntime) -> Result<(), Fail> {
     let cases = [
         (0, 0x464c4500, 2),
         (1, 0x00010102, 3),
@@ -152,11 +189,10 @@ fn refuses_the_smallest_file_changed(rt: HostRuntime) -> Result<(), Fail> {
         (13, 4, 13),
         (19, 4, 13),
     ];
-    for (at, value, number) in cases {
-        let bytes = file(rt.alloc(), &SMALLEST, &[(at, value)])?;
-        assert_eq!(rt; refused(rt.alloc(), &bytes), number, "word {at} is {value}");
+    for case in &cases {
+        check_change(&rt, rt.alloc(), &SMALLEST, case)?;
     }
-    assert_eq!(rt; Refusal::WritableCode.name(), "WritableCode");
+    assert!(rt; Refusal::WritableCode.name() == "WritableCode");
     Ok(())
 }
 
@@ -202,9 +238,8 @@ fn refuses_the_linked_file_changed(rt: HostRuntime) -> Result<(), Fail> {
         (74, 0x0002_0014, 14),
         (74, 0x0001_0000, 14),
     ];
-    for (at, value, number) in cases {
-        let bytes = file(rt.alloc(), &LINKED, &[(at, value)])?;
-        assert_eq!(rt; refused(rt.alloc(), &bytes), number, "word {at} is {value}");
+    for case in &cases {
+        check_change(&rt, rt.alloc(), &LINKED, case)?;
     }
     Ok(())
 }
@@ -235,7 +270,10 @@ fn refuses_by_several_changes(rt: HostRuntime) -> Result<(), Fail> {
     for (changes, number) in cases {
         let bytes = file(rt.alloc(), &LINKED, &changes)?;
         let (at, value) = changes[0];
-        assert_eq!(rt; refused(rt.alloc(), &bytes), number, "word {at} is {value}");
+        assert!(rt;
+            refused(rt.alloc(), &bytes) == number,
+            "word {at} is {value}"
+        );
     }
     Ok(())
 }
@@ -299,7 +337,7 @@ fn loads_up_to_the_limits(rt: HostRuntime) -> Result<(), Fail> {
     ];
     for (amounts, number) in cases {
         let bytes = file_with(rt.alloc(), amounts)?;
-        assert_eq!(rt; refused(rt.alloc(), &bytes), number, "{amounts:?}");
+        assert!(rt; refused(rt.alloc(), &bytes) == number, "{amounts:?}");
     }
     Ok(())
 }
@@ -308,8 +346,8 @@ fn loads_up_to_the_limits(rt: HostRuntime) -> Result<(), Fail> {
 fn loads_the_longest_file(rt: HostRuntime) -> Result<(), Fail> {
     let mut bytes = file(rt.alloc(), &SMALLEST, &[])?;
     bytes.resize(1_048_576, 0)?;
-    assert_eq!(rt; bytes.len(), MAX_FILE);
+    assert!(rt; bytes.len() == MAX_FILE);
     let image = load(rt.alloc(), &bytes)?;
-    assert_eq!(rt; image.ranges(), 1);
+    assert!(rt; image.ranges() == 1);
     Ok(())
 }

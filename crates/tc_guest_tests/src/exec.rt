@@ -334,10 +334,9 @@ fn check_told(
     answer: u32,
     told: (Want, Act),
 ) -> Result<(), Fail> {
-    assert_eq!(rt; wants(image, held, &regs), told.0, "{held:?} {regs:?}");
-    assert_eq!(rt;
-        act(image, held, &regs, answer),
-        told.1,
+    assert!(rt; wants(image, held, &regs) == told.0, "{held:?} {regs:?}");
+    assert!(rt;
+        act(image, held, &regs, answer) == told.1,
         "{held:?} {regs:?}"
     );
     Ok(())
@@ -439,8 +438,8 @@ fn a_lock_is_wanted_where_it_is_taken(rt: HostRuntime) -> Result<(), Fail> {
         regs.put(Reg::of(17), x17);
         regs.put(Reg::of(10), x10);
         let held = guards::held_of(&[held]);
-        assert_eq!(rt; lock_wanted(&image, held, &regs), lock);
-        assert_eq!(rt; code.ahead(&image, held, &regs, None).lock, lock);
+        assert!(rt; lock_wanted(&image, held, &regs) == lock);
+        assert!(rt; code.ahead(&image, held, &regs, None).lock == lock);
     }
     Ok(())
 }

@@ -1,4 +1,5 @@
 use std::test::Fail;
+use tc_elf::image::Image;
 use tc_elf::load::load;
 use tc_exec::code::Code;
 use tc_exec::execute::Effect;
@@ -23,51 +24,75 @@ const SMALLEST: [u8; 92] = [
 ];
 
 #[test]
-fn a_thread_runs_to_its_exit(rt: HostRuntime) -> Result<(), Fail> {
+fn a_thread_wants_nothing_at_first(rt: HostRuntime) -> Result<(), Fail> {
     let image = load(rt.alloc(), &SMALLEST)?;
-    let mut thread = GuestThread::start(rt.alloc(), &image, 100, 0)?;
+    let thread = GuestThread::start(rt.alloc(), &image, 100, 0)?;
     assert!(rt; thread.wants(&image) == Want::Nothing);
     assert!(rt; thread.next_lock(&image).is_none());
     assert!(rt; thread.held() == Held::none());
-    let first = thread.act(&image, 0);
-    assert!(rt; outcome_of(&first) == Outcome::Went);
-    thread.take_turn(&first);
-    assert_eq!(rt; thread.regs().pc(), 0x10058);
-    assert_eq!(rt; thread.regs().get(Reg::of(17)), 93);
-    let last = thread.act(&image, 0);
-    assert!(rt; outcome_of(&last) == Outcome::Exited);
-    thread.take_turn(&last);
-    assert!(rt; thread.status() == Status::Exited);
-    assert_eq!(rt; thread.fuel(), 98);
+    Ok(())
+}
+
+/// Takes a turn, which loads nothing.
+fn go(image: &Image, thread: &mut GuestThread) {
+    let act = thread.act(image, 0);
+    thread.take_turn(&act);
+}
+
+#[test]
+fn a_thread_goes_on(rt: HostRuntime) -> Result<(), Fail> {
+    let image = load(rt.alloc(), &SMALLEST)?;
+    let mut thread = GuestThread::start(rt.alloc(), &image, 100, 0)?;
+    assert!(rt; outcome_of(&thread.act(&image, 0)) == Outcome::Went);
+    go(&image, &mut thread);
+    assert!(rt; thread.regs().pc() == 0x10058 && thread.regs().get(Reg::of(17)) == 93);
     Ok(())
 }
 
 #[test]
-fn turns_in_place_are_the_turns(rt: HostRuntime) -> Result<(), Fail> {
+fn a_thread_runs_to_its_exit(rt: HostRuntime) -> Result<(), Fail> {
+    let image = load(rt.alloc(), &SMALLEST)?;
+    let mut thread = GuestThread::start(rt.alloc(), &image, 100, 0)?;
+    go(&image, &mut thread);
+    let last = thread.act(&image, 0);
+    assert!(rt; outcome_of(&last) == Outcome::Exited);
+    thread.take_turn(&last);
+    assert!(rt; thread.status() == Status::Exited && thread.fuel() == 98);
+    Ok(())
+}
+
+/// The loop over steps takes what they take of the fuel.
+#[test]
+fn a_step_in_place_is_the_turn_but_for_fuel(rt: HostRuntime) -> Result<(), Fail> {
     let image = load(rt.alloc(), &SMALLEST)?;
     let code = Code::of(rt.alloc(), &image)?;
     let mut thread = GuestThread::start(rt.alloc(), &image, 100, 0)?;
     let first = code.find(thread.regs().pc()).expect(&rt, "decoded");
     assert!(rt; thread.load_wanted(&image, first) == Want::Nothing);
     assert!(rt; matches!(thread.execute(first), Effect::Went));
-    assert_eq!(rt; thread.regs().pc(), 0x10058);
-    // The loop over steps takes what they take of the fuel.
-    assert_eq!(rt; thread.fuel(), 100);
+    assert!(rt; thread.regs().pc() == 0x10058 && thread.fuel() == 100);
     thread.spend(1);
-    assert_eq!(rt; thread.fuel(), 99);
-    let call = code.find(thread.regs().pc()).expect(&rt, "decoded");
-    assert!(rt; thread.ahead(&image, &code, Some(call)).lock.is_none());
-    let want = thread.load_wanted(&image, call);
-    let last = thread.turn(&image, call, want, 0);
-    assert!(rt; last == Some(Done::Called(Call::Exit)));
-    assert!(rt; outcome_by(&last) == Outcome::Exited);
-    assert!(rt; thread.status() == Status::Exited);
-    assert_eq!(rt; thread.fuel(), 98);
+    assert!(rt; thread.fuel() == 99);
     Ok(())
 }
 
 #[test]
-fn numbers_stand_in_little_endian_order(rt: HostRuntime) -> Result<(), Fail> {
+fn a_call_in_place_is_the_turn(rt: HostRuntime) -> Result<(), Fail> {
+    let image = load(rt.alloc(), &SMALLEST)?;
+    let code = Code::of(rt.alloc(), &image)?;
+    let mut thread = GuestThread::start(rt.alloc(), &image, 100, 0)?;
+    go(&image, &mut thread);
+    let call = code.find(thread.regs().pc()).expect(&rt, "decoded");
+    assert!(rt; thread.ahead(&image, &code, Some(call)).lock.is_none());
+    let want = thread.load_wanted(&image, call);
+    let last = thread.turn(&image, call, want, 0);
+    assert!(rt; last == Some(Done::Called(Call::Exit)) && outcome_by(&last) == Outcome::Exited);
+    assert!(rt; thread.status() == Status::Exited && thread.fuel() == 98);
+    Ok(())
+}
+
+#[test]
+fn a_thread_has_its_stack(rt: HostRuntime) -> Result<(), Fail> {
     let image = load(rt.alloc(), &SMALLEST)?;
     let memory = Memory::start(rt.alloc(), &image)?;
     let copy = memory.copy()?;
@@ -78,12 +103,20 @@ fn numbers_stand_in_little_endian_order(rt: HostRuntime) -> Result<(), Fail> {
         // Code is no thread's own.
         (0x0001_0054, None),
     ] {
-        assert!(rt; memory.byte(addr) == byte, "at {addr}");
-        assert!(rt; copy.byte(addr) == byte, "at {addr} of the copy");
+        assert!(rt;
+            memory.byte(addr) == byte && copy.byte(addr) == byte,
+            "at {addr}"
+        );
     }
+    Ok(())
+}
+
+#[test]
+fn numbers_stand_in_little_endian_order(rt: HostRuntime) -> Result<(), Fail> {
+    let image = load(rt.alloc(), &SMALLEST)?;
     let mut bytes = starting_bytes(rt.alloc(), &image, 0x10054, 8)?;
-    assert_eq!(rt; number_from(0x10054, &bytes, 0x10058, 4), 0x73);
-    assert_eq!(rt; number_from(0x10054, &bytes, 0x1005a, 4), 0);
+    assert!(rt; number_from(0x10054, &bytes, 0x10058, 4) == 0x73);
+    assert!(rt; number_from(0x10054, &bytes, 0x1005a, 4) == 0);
     put_number(0x10054, &mut bytes, 0x10058, 2, 0xabcd);
     assert!(rt; bytes.as_slice() == b"\x93\x08\xd0\x05\xcd\xab\0\0".as_slice());
     Ok(())

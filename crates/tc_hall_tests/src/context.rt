@@ -46,15 +46,12 @@ fn step<R: Abort>(
 {
     package.reserve()?;
     let want = package.want(image);
-    assert!(rt; !package.pending());
-    assert!(rt; package.status() == Status::Running);
-    assert!(rt; want == package.granted());
-    assert!(rt; package.fits(0));
+    assert!(rt; !package.pending() && package.status() == Status::Running);
+    assert!(rt; want == package.granted() && package.fits(0));
     package.keeps();
     prove!(image.guards() <= 32);
     let ended = package.run_block(image);
-    assert!(rt; package.pending());
-    assert!(rt; ended == end);
+    assert!(rt; package.pending() && ended == end);
     package.seal(stamp, 0);
     assert!(rt; !package.pending());
     Ok(())
@@ -76,12 +73,10 @@ fn grant_as<R: Abort>(
     ensures locks { (k : ℕ) → set_of «package».new.context k ≡ (if k == state.number then true else set_of «package».old.context k) }
 {
     let lock = state.number();
-    assert!(rt; !package.pending());
-    assert!(rt; package.granted().is_none());
+    assert!(rt; !package.pending() && package.granted().is_none());
     assert!(rt; 1 <= number && number <= MAX_NUMBER);
     assert!(rt; package.want(image) == Some(lock));
-    assert!(rt; kind.is_section());
-    assert!(rt; state.passes_to(kind, package.thread()));
+    assert!(rt; kind.is_section() && state.passes_to(kind, package.thread()));
     package.grant(state, kind, number);
     assert!(rt; package.granted() == Some(lock));
 }
@@ -116,8 +111,7 @@ fn take_out<R: Abort>(rt: &R, package: &mut Package, lock: u32, number: u64) -> 
     ensures rest { IsAtRest «package».old.image lock result }
 {
     assert!(rt; package.number_of(lock) == number);
-    assert!(rt; !package.pending());
-    assert!(rt; package.granted().is_none());
+    assert!(rt; !package.pending() && package.granted().is_none());
     assert!(rt; !package.held().has(lock));
     package.take_out(lock)
 }
@@ -142,43 +136,71 @@ type Entry<'a> = (Block, u32, &'a [u32]);
 
 /// Asserts that a lock's journal has these entries.
 fn check_journal<R: Abort>(rt: &R, lock: &LockState, entries: &[Entry<'_>]) {
-    assert_eq!(rt; lock.entries(), entries.len());
+    assert!(rt; lock.entries() == entries.len());
     for (i, (block, fuel, foreign)) in entries.iter().enumerate() {
         let entry = lock.entry(i);
-        assert_eq!(rt; (entry.block, entry.fuel), (*block, *fuel));
-        assert_eq!(rt; entry.foreign, *foreign);
+        assert!(rt; entry.block == *block && entry.fuel == *fuel);
+        assert!(rt; entry.foreign == *foreign);
     }
 }
 
-/// A package before its first block.
-#[test]
-fn a_package_starts_without_a_lock(rt: HostRuntime) -> Result<(), Fail> {
-    let image = with_own(rt.alloc())?;
-    assert_eq!(rt; image.threads(), 1);
-    let mut package = Package::start(rt.alloc(), &image, 0, 100)?;
-    assert_eq!(rt; package.thread(), 0);
-    assert_eq!(rt; package.fuel(), 100);
-    assert_eq!(rt; package.regs().get(Reg::of(10)), 7);
+/// A package before its first block, of a thread with the argument 7.
+fn check_start<R: Abort>(rt: &R, package: &Package) {
+    assert!(rt; package.thread() == 0 && package.fuel() == 100);
+    assert!(rt; package.regs().get(Reg::of(10)) == 7);
     assert!(rt; package.status() == Status::Running);
     assert!(rt; package.held() == Held::none());
-    assert!(rt; package.log().is_empty());
-    assert!(rt; !package.pending());
+    assert!(rt; package.log().is_empty() && !package.pending());
     assert!(rt; package.granted().is_none());
-    assert!(rt; package.want(&image).is_none());
     assert!(rt; package.fits(7));
+}
+
+/// A package has the bytes of its thread: a guard and the code are not the thread's own.
+fn check_bytes<R: Abort>(rt: &R, package: &Package) {
     for (addr, byte) in [
         (0x0002_0008, Some(0x99)),
         (0x0002_000b, Some(0xcc)),
         (0x7fff_c000, Some(0)),
-        // A guard and the code are not the thread's own.
         (0x0002_0000, None),
         (0x0002_0007, None),
         (0x0010_0000, None),
     ] {
         assert!(rt; package.byte(addr) == byte, "at {addr}");
     }
+}
+
+/// Starts a package of that guest.
+fn start<R: Abort>(rt: &R, alloc: Global, image: &Image) -> Result<(), AllocError> {
+    assert!(rt; image.threads() == 1);
+    let mut package = Package::start(alloc, image, 0, 100)?;
+    check_start(rt, &package);
+    assert!(rt; package.want(image).is_none());
+    check_bytes(rt, &package);
     for number in 1..4 {
-        assert_eq!(rt; package.next_number(), number);
+        assert!(rt; package.next_number() == number);
+    }
+    Ok(())
+}
+
+#[test]
+fn a_package_starts_without_a_lock(rt: HostRuntime) -> Result<(), Fail> {
+    let image = with_own(rt.alloc())?;
+    start(&rt, rt.alloc(), &image)?;
+    Ok(())
+}
+
+/// Runs a package to its sleep of 9 blocks.
+fn sleep<R: Abort>(rt: &R, alloc: Global, image: &Image) -> Result<(), AllocError> {
+    assert!(rt; image.threads() == 1);
+    let mut package = Package::start(alloc, image, 0, 100)?;
+    step(rt, &mut package, image, 0, End::Slept)?;
+    assert!(rt; !package.log().is_empty());
+    let last = package.last();
+    assert!(rt; last == block(0, 3, Held::none(), Kind::Start, 0x0010_0000, End::Slept));
+    assert!(rt; package.regs().get(Reg::of(10)) == 0);
+    match last.end {
+        End::Slept => assert!(rt; package.slept() == 9),
+        _ => panic!(rt; "it sleeps"),
     }
     Ok(())
 }
@@ -190,64 +212,60 @@ fn a_package_sleeps(rt: HostRuntime) -> Result<(), Fail> {
     words[51] = 0x0090_0513;
     words[52] = 0x0030_0893;
     let image = image_of(rt.alloc(), &words)?;
-    assert_eq!(rt; image.threads(), 1);
-    let mut package = Package::start(rt.alloc(), &image, 0, 100)?;
-    step(&rt, &mut package, &image, 0, End::Slept)?;
-    assert!(rt; !package.log().is_empty());
-    let last = package.last();
-    assert_eq!(rt;
-        last,
-        block(0, 3, Held::none(), Kind::Start, 0x0010_0000, End::Slept)
-    );
-    assert_eq!(rt; package.regs().get(Reg::of(10)), 0);
-    match last.end {
-        End::Slept => assert_eq!(rt; package.slept(), 9),
-        _ => panic!(rt; "it sleeps"),
-    }
+    sleep(&rt, rt.alloc(), &image)?;
     Ok(())
 }
 
-/// A lock that came with the greatest number of a queue turn.
+/// Grants a package lock 0 with the greatest number of a queue turn.
+fn grant_last<R: Abort>(rt: &R, alloc: Global, image: &Image) -> Result<(), AllocError> {
+    assert!(rt; image.threads() == 1);
+    let mut package = Package::start(alloc, image, 0, 100)?;
+    step(rt, &mut package, image, 0, End::Wants(0))?;
+    grant_new(rt, alloc, &mut package, image, 0, 16_777_215)?;
+    assert!(rt; package.number_of(0) == 16_777_215);
+    Ok(())
+}
+
 #[test]
 fn a_lock_comes_with_the_greatest_number(rt: HostRuntime) -> Result<(), Fail> {
-    let alloc = rt.alloc();
-    let image = two_locks(alloc)?;
-    assert_eq!(rt; image.threads(), 1);
-    let mut package = Package::start(alloc, &image, 0, 100)?;
-    step(&rt, &mut package, &image, 0, End::Wants(0))?;
-    grant_new(&rt, alloc, &mut package, &image, 0, 16_777_215)?;
-    assert_eq!(rt; package.number_of(0), 16_777_215);
+    let image = two_locks(rt.alloc())?;
+    grant_last(&rt, rt.alloc(), &image)?;
+    Ok(())
+}
+
+/// Runs a package through both sections to its end.
+fn run_through<R: Abort>(rt: &R, alloc: Global, image: &Image) -> Result<(), AllocError> {
+    assert!(rt; image.threads() == 1);
+    let mut package = Package::start(alloc, image, 0, 100)?;
+    step(rt, &mut package, image, 0, End::Wants(0))?;
+    let first = package.next_number();
+    grant_new(rt, alloc, &mut package, image, 0, first)?;
+    step(rt, &mut package, image, 1, End::Wants(1))?;
+    let second = package.next_number();
+    grant_new(rt, alloc, &mut package, image, 1, second)?;
+    step(rt, &mut package, image, 2, End::Unlocked(0))?;
+    let zero = take_out(rt, &mut package, 0, 1);
+    step(rt, &mut package, image, 3, End::Unlocked(1))?;
+    let one = take_out(rt, &mut package, 1, 2);
+    step(rt, &mut package, image, 4, End::Exit)?;
+    check_end(rt, &package);
+    check_zero(rt, &zero);
+    check_one(rt, &one);
     Ok(())
 }
 
 /// The blocks of a package from its start to its end, and the journals of its locks.
 #[test]
 fn a_package_runs_to_its_end(rt: HostRuntime) -> Result<(), Fail> {
-    let alloc = rt.alloc();
-    let image = two_locks(alloc)?;
-    assert_eq!(rt; image.threads(), 1);
-    let mut package = Package::start(alloc, &image, 0, 100)?;
-    step(&rt, &mut package, &image, 0, End::Wants(0))?;
-    let first = package.next_number();
-    grant_new(&rt, alloc, &mut package, &image, 0, first)?;
-    step(&rt, &mut package, &image, 1, End::Wants(1))?;
-    let second = package.next_number();
-    grant_new(&rt, alloc, &mut package, &image, 1, second)?;
-    step(&rt, &mut package, &image, 2, End::Unlocked(0))?;
-    let zero = take_out(&rt, &mut package, 0, 1);
-    step(&rt, &mut package, &image, 3, End::Unlocked(1))?;
-    let one = take_out(&rt, &mut package, 1, 2);
-    step(&rt, &mut package, &image, 4, End::Exit)?;
-    check_end(&rt, &package);
-    check_zero(&rt, &zero);
-    check_one(&rt, &one);
+    let image = two_locks(rt.alloc())?;
+    run_through(&rt, rt.alloc(), &image)?;
     Ok(())
 }
 
-/// The package after its exit.
-fn check_end<R: Abort>(rt: &R, package: &Package) {
+/// The blocks of the package.
+fn whole_log() -> [Block; 5] {
     let none = Held::none();
-    let log = [
+    [
         block(0, 2, none, Kind::Start, 0x0010_0000, End::Wants(0)),
         block(1, 3, none.plus(0), Kind::Taken, 0x0010_0008, End::Wants(1)),
         block(
@@ -260,13 +278,25 @@ fn check_end<R: Abort>(rt: &R, package: &Package) {
         ),
         block(3, 3, none.plus(1), Kind::On, 0x0010_0024, End::Unlocked(1)),
         block(4, 2, none, Kind::On, 0x0010_0030, End::Exit),
-    ];
-    assert_eq!(rt; package.log(), log.as_slice());
+    ]
+}
+
+/// The package after its exit.
+fn check_end<R: Abort>(rt: &R, package: &Package) {
+    assert!(rt; package.log() == whole_log().as_slice());
     assert!(rt; package.status() == Status::Exited);
-    assert_eq!(rt; package.fuel(), 86);
-    assert_eq!(rt; package.regs().pc(), 0x0010_0034);
-    assert_eq!(rt; package.regs().get(Reg::of(10)), 0);
-    assert_eq!(rt; package.regs().get(Reg::of(17)), 93);
+    assert!(rt; package.fuel() == 86);
+    let regs = package.regs();
+    assert!(rt; regs.pc() == 0x0010_0034);
+    assert!(rt; regs.get(Reg::of(10)) == 0 && regs.get(Reg::of(17)) == 93);
+}
+
+/// A lock of this number after one section, in which nobody wrote to its guard.
+fn check_lock<R: Abort>(rt: &R, lock: &LockState, number: u32) {
+    assert!(rt; lock.number() == number && lock.limit() == 4);
+    assert!(rt; lock.bytes() == [0, 0, 0, 0].as_slice());
+    assert!(rt; lock.sections() == 1);
+    assert!(rt; lock.run() == 0 && !lock.broken());
 }
 
 /// Lock 0 after its section. Its foreign words are the answer of its own LOCK, in block 1, and that
@@ -278,14 +308,8 @@ fn check_zero<R: Abort>(rt: &R, lock: &LockState) {
     let taken = block(1, 3, first, Kind::Taken, 0x0010_0008, End::Wants(1));
     let released = block(2, 4, both, Kind::Taken, 0x0010_0014, End::Unlocked(0));
     check_journal(rt, lock, &[(taken, 98, &[0]), (released, 95, &[0])]);
-    assert_eq!(rt; lock.number(), 0);
-    assert_eq!(rt; lock.limit(), 4);
-    assert_eq!(rt; lock.bytes(), [0, 0, 0, 0].as_slice());
-    assert_eq!(rt; lock.sections(), 1);
-    assert_eq!(rt; lock.run(), 0);
-    assert!(rt; !lock.broken());
-    assert!(rt; lock.allows(Kind::Taken, 3));
-    assert!(rt; lock.allows(Kind::Granted, 3));
+    check_lock(rt, lock, 0);
+    assert!(rt; lock.allows(Kind::Taken, 3) && lock.allows(Kind::Granted, 3));
     assert!(rt; !lock.allows(Kind::Adopted, 0));
 }
 
@@ -297,14 +321,9 @@ fn check_one<R: Abort>(rt: &R, lock: &LockState) {
     let taken = block(2, 4, both, Kind::Taken, 0x0010_0014, End::Unlocked(0));
     let released = block(3, 3, second, Kind::On, 0x0010_0024, End::Unlocked(1));
     check_journal(rt, lock, &[(taken, 95, &[0]), (released, 91, &[])]);
-    assert_eq!(rt; lock.number(), 1);
-    assert_eq!(rt; lock.bytes(), [0, 0, 0, 0].as_slice());
-    assert_eq!(rt; lock.sections(), 1);
-    assert!(rt; lock.allows(Kind::Taken, 3));
-    assert!(rt; !lock.allows(Kind::Granted, 0));
-    assert!(rt; lock.allows(Kind::Adopted, 0));
-    assert!(rt; !lock.allows(Kind::Adopted, 1));
+    check_lock(rt, lock, 1);
+    assert!(rt; lock.allows(Kind::Taken, 3) && !lock.allows(Kind::Granted, 0));
+    assert!(rt; lock.allows(Kind::Adopted, 0) && !lock.allows(Kind::Adopted, 1));
     // But not to the same thread.
-    assert!(rt; !lock.passes_to(Kind::Adopted, 0));
-    assert!(rt; lock.passes_to(Kind::Adopted, 1));
+    assert!(rt; !lock.passes_to(Kind::Adopted, 0) && lock.passes_to(Kind::Adopted, 1));
 }

@@ -19,8 +19,7 @@ fn open<R: Abort>(rt: &R, alloc: Global) -> Result<(Hall, Pass, Pass), Fail>
     ensures own { IfOk result (λ r. (r.1.table ≡ r.0.table) × (r.2.table ≡ r.0.table)) }
 {
     let image = image_of(alloc, &TWO_THREADS)?;
-    assert_eq!(rt; image.threads(), 2);
-    assert_eq!(rt; image.guards(), 1);
+    assert!(rt; image.threads() == 2 && image.guards() == 1);
     let (hall, mut passes) = Hall::new(alloc, &image, 100, 2, 4)?;
     let other = passes.pop().expect(rt, "the second pass");
     let zero = passes.pop().expect(rt, "the first pass");
@@ -33,7 +32,7 @@ fn look_around<R: Abort>(rt: &R, hall: &Hall, pass: &mut Pass, words: [u64; 2])
     requires own { pass.old.table ≡ hall.now.table }
     ensures own { pass.new.table ≡ hall.now.table }
 {
-    assert_eq!(rt; [hall.look(pass, 0), hall.look(pass, 1)], words);
+    assert!(rt; hall.look(pass, 0) == words[0] && hall.look(pass, 1) == words[1]);
     assert!(rt; !hall.stopped(pass));
 }
 
@@ -46,7 +45,26 @@ fn miss_lock<R: Abort>(rt: &R, hall: &Hall, pass: &mut Pass)
 {
     match hall.take(pass, 0) {
         Ok(_) => panic!(rt; "lock 0 is out"),
-        Err(word) => assert_eq!(rt; word, LockOut(1)),
+        Err(word) => assert!(rt; word == LockOut(1)),
+    }
+    look_around(rt, hall, pass, [512, 0]);
+}
+
+/// A pass misses thread 0, which is out, and thread 1, which does not wait.
+fn miss_threads<R: Abort>(rt: &R, hall: &Hall, pass: &mut Pass)
+    requires two { threads hall.now.terms ≡ 2 }
+    requires one { locks hall.now.terms ≡ 1 }
+    requires own { pass.old.table ≡ hall.now.table }
+    ensures own { pass.new.table ≡ hall.now.table }
+{
+    match hall.claim(pass, 0, Origin::Ready) {
+        Ok(_) => panic!(rt; "thread 0 is out"),
+        Err(word) => assert!(rt; word == NotReady(512)),
+    }
+    look_around(rt, hall, pass, [512, 0]);
+    match hall.adopt(pass, 1, 0) {
+        Ok(_) => panic!(rt; "thread 1 does not wait"),
+        Err(word) => assert!(rt; word == NotWaiting(0)),
     }
     look_around(rt, hall, pass, [512, 0]);
 }
@@ -58,28 +76,18 @@ fn see_words<R: Abort>(rt: &R, hall: &Hall, zero: &mut Pass, other: &mut Pass)
     requires one { locks hall.now.terms ≡ 1 }
     requires own { (zero.old.table ≡ hall.now.table) × (other.old.table ≡ hall.now.table) }
 {
-    assert_eq!(rt; zero.worker(), 0);
-    assert_eq!(rt; other.worker(), 1);
+    assert!(rt; zero.worker() == 0 && other.worker() == 1);
     look_around(rt, hall, other, [0, 0]);
     let Ok(package) = hall.claim(zero, 0, Origin::Ready) else {
         panic!(rt; "thread 0 is ready")
     };
     look_around(rt, hall, other, [512, 0]);
-    assert_eq!(rt; package.thread(), 0);
-    match hall.claim(other, 0, Origin::Ready) {
-        Ok(_) => panic!(rt; "thread 0 is out"),
-        Err(word) => assert_eq!(rt; word, NotReady(512)),
-    }
-    look_around(rt, hall, other, [512, 0]);
-    match hall.adopt(other, 1, 0) {
-        Ok(_) => panic!(rt; "thread 1 does not wait"),
-        Err(word) => assert_eq!(rt; word, NotWaiting(0)),
-    }
-    look_around(rt, hall, other, [512, 0]);
+    assert!(rt; package.thread() == 0);
+    miss_threads(rt, hall, other);
     let Ok(lock) = hall.take(zero, 0) else {
         panic!(rt; "lock 0 is home")
     };
-    assert_eq!(rt; lock.number(), 0);
+    assert!(rt; lock.number() == 0);
     look_around(rt, hall, other, [512, 0]);
     miss_lock(rt, hall, other);
     miss_lock(rt, hall, other);
@@ -128,8 +136,8 @@ fn race<R: Threads>(rt: &R, hall: &Hall, zero: Pass, other: Pass) -> (Option<u64
 fn one_of_two_threads_of_the_host_claims(rt: HostRuntime) -> Result<(), Fail> {
     let (hall, zero, other) = open(&rt, rt.alloc())?;
     match race(&rt, &hall, zero, other) {
-        (None, Some(word)) => assert_eq!(rt; word, 512),
-        (Some(word), None) => assert_eq!(rt; word, 513),
+        (None, Some(word)) => assert!(rt; word == 512),
+        (Some(word), None) => assert!(rt; word == 513),
         _ => panic!(rt; "one worker gets the thread"),
     }
     Ok(())

@@ -52,17 +52,17 @@ fn take_turns<R: Abort + Wait>(rt: &R, queue: &NodeQueue, zero: &mut NodeSeat, o
     requires seats { IsSeatOf queue.now zero.old × IsSeatOf queue.now one.old }
 {
     let (first, second) = (turn(0, 1), turn(1, 1));
-    assert_eq!(rt; queue.enter(zero, first), Entered::First);
+    assert!(rt; queue.enter(zero, first) == Entered::First);
     let Entered::Behind(place) = queue.enter(one, second) else {
         panic!(rt; "the second turn found nobody")
     };
-    assert_eq!(rt; place, 1);
-    assert_eq!(rt; queue.next(rt, zero, first), None);
-    assert_eq!(rt; queue.leave(rt, zero, first), Departure::Followed);
+    assert!(rt; place == 1);
+    assert!(rt; queue.next(rt, zero, first).is_none());
+    assert!(rt; queue.leave(rt, zero, first) == Departure::Followed);
     queue.link(one, place, second);
-    assert_eq!(rt; queue.next(rt, zero, first), Some(second));
-    assert_eq!(rt; queue.next(rt, one, second), None);
-    assert_eq!(rt; queue.leave(rt, one, second), Departure::Left);
+    assert!(rt; queue.next(rt, zero, first) == Some(second));
+    assert!(rt; queue.next(rt, one, second).is_none());
+    assert!(rt; queue.leave(rt, one, second) == Departure::Left);
 }
 
 #[test]
@@ -99,6 +99,6 @@ fn count_of<R: Threads + Wait + Sync>(
 fn four_threads(rt: HostRuntime) -> Result<(), Fail> {
     let (queue, seats) = NodeQueue::new(rt.alloc(), 4, 4, 2, 3)?;
     let counted = count_of(&rt, &queue, seats)?;
-    assert_eq!(rt; counted, 4 * ROUNDS);
+    assert!(rt; counted == 4 * ROUNDS);
     Ok(())
 }

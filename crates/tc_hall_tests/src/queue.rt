@@ -17,18 +17,18 @@ fn take_turns<R: Abort>(rt: &R, queue: &Queue, zero: &mut QueueSeat, one: &mut Q
     requires seats { IsOwnSeatOf queue.now zero.old × IsOwnSeatOf queue.now one.old }
 {
     let (first, second) = (turn(0, 1), turn(1, 1));
-    assert_eq!(rt; queue.enter(zero, first), Entered::First);
+    assert!(rt; queue.enter(zero, first) == Entered::First);
     let Entered::Behind(before) = queue.enter(one, second) else {
         panic!(rt; "the second turn is not behind the first one")
     };
-    assert_eq!(rt; before, first);
-    assert_eq!(rt; queue.next(zero, first), None);
-    assert_eq!(rt; queue.leave(zero, first), Leave::Followed(Some(second)));
+    assert!(rt; before == first);
+    assert!(rt; queue.next(zero, first).is_none());
+    assert!(rt; queue.leave(zero, first) == Leave::Followed(Some(second)));
     queue.link(one, before, second);
-    assert_eq!(rt; queue.next(zero, first), Some(second));
-    assert_eq!(rt; queue.next(one, second), None);
-    assert_eq!(rt; queue.leave(one, second), Leave::Left);
-    assert_eq!(rt; queue.enter(zero, turn(0, 2)), Entered::First);
+    assert!(rt; queue.next(zero, first) == Some(second));
+    assert!(rt; queue.next(one, second).is_none());
+    assert!(rt; queue.leave(one, second) == Leave::Left);
+    assert!(rt; queue.enter(zero, turn(0, 2)) == Entered::First);
 }
 
 #[test]
@@ -65,6 +65,6 @@ fn count_of<R: Threads + Wait + Sync>(
 fn four_threads(rt: HostRuntime) -> Result<(), Fail> {
     let (queue, seats) = Queue::new(rt.alloc(), 4, 4)?;
     let counted = count_of(&rt, &queue, seats)?;
-    assert_eq!(rt; counted, 4 * ROUNDS);
+    assert!(rt; counted == 4 * ROUNDS);
     Ok(())
 }

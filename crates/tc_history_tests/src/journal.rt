@@ -1,5 +1,6 @@
 ghost use Rattle.std.specs.Prelude.{◌≡◌};
 
+use std::alloc::Global;
 use std::test::Fail;
 use tc_isa::fault::Fault;
 use tc_isa::held::Held;
@@ -61,9 +62,9 @@ block 5 thread 1 turns 2 held - kind on worker 1 pc 00100028 end exit
 fn a_history_is_printed_and_read_back(rt: HostRuntime) -> Result<(), Fail> {
     let history = two_threads();
     let printed = text(rt.alloc(), &history)?;
-    assert_eq!(rt; printed.as_slice(), TWO_THREADS.as_bytes());
+    assert!(rt; printed.as_slice() == TWO_THREADS.as_bytes());
     let blocks = read(rt.alloc(), &printed)?;
-    assert_eq!(rt; blocks.as_slice(), history.as_slice());
+    assert!(rt; blocks.as_slice() == history.as_slice());
     Ok(())
 }
 
@@ -77,7 +78,7 @@ fn logs_are_merged_by_their_stamps(rt: HostRuntime) -> Result<(), Fail> {
     logs.push(Vec::from_slice(rt.alloc(), &[zero, two])?)?;
     logs.push(Vec::from_slice(rt.alloc(), &[one])?)?;
     let history = merge(rt.alloc(), &logs)?;
-    assert_eq!(rt; history.as_slice(), [zero, one, two].as_slice());
+    assert!(rt; history.as_slice() == [zero, one, two].as_slice());
     Ok(())
 }
 
@@ -98,7 +99,7 @@ fn blocks_end_by_the_first_rule_that_holds(rt: HostRuntime) {
     ];
     for (outcome, turns, next, want) in cases {
         let end = end_of(outcome, turns, next);
-        assert_eq!(rt; end, want, "{outcome:?}, {turns} turns");
+        assert!(rt; end == want, "{outcome:?}, {turns} turns");
     }
 }
 
@@ -115,10 +116,10 @@ block 6 thread 0 turns 1000 held - kind on worker 1 pc 00f0e0d0 end spent
 ";
     let blocks = read(rt.alloc(), lines)?;
     let printed = text(rt.alloc(), &blocks)?;
-    assert_eq!(rt; printed.as_slice(), lines.as_slice());
+    assert!(rt; printed.as_slice() == lines.as_slice());
     let none = Held::none();
     let last = block(6, 0, 1000, none, Kind::On, 1, 0x00f0_e0d0, End::Spent);
-    assert_eq!(rt; blocks.last().copied(), Some(last));
+    assert!(rt; blocks.last().copied() == Some(last));
     Ok(())
 }
 
@@ -182,36 +183,38 @@ const WRONG: [&str; 36] = [
 
 #[test]
 fn one_right_line_is_read(rt: HostRuntime) -> Result<(), Fail> {
-    for line in RIGHT {
-        assert_eq!(rt; read(rt.alloc(), line.as_bytes())?.len(), 1, "{line}");
+    for line in &RIGHT {
+        assert!(rt; read(rt.alloc(), line.as_bytes())?.len() == 1, "{line}");
     }
-    assert_eq!(rt; read(rt.alloc(), b"")?.len(), 0);
+    assert!(rt; read(rt.alloc(), b"")?.is_empty());
     Ok(())
+}
+
+/// Whether this line of a text is named as its first wrong one.
+fn is_wrong(alloc: Global, text: &str, line: u64) -> bool {
+    read(alloc, text.as_bytes()).err() == Some(BadText::Line(line))
 }
 
 #[test]
 fn a_wrong_first_line_is_named(rt: HostRuntime) {
-    for line in WRONG {
-        let found = read(rt.alloc(), line.as_bytes()).err();
-        assert_eq!(rt; found, Some(BadText::Line(1)), "{line}");
+    for line in &WRONG {
+        assert!(rt; is_wrong(rt.alloc(), line, 1), "{line}");
     }
 }
 
 #[test]
 fn a_wrong_second_line_is_named(rt: HostRuntime) -> Result<(), Fail> {
     let empty = "block 0 thread 0 turns 2 held - kind start worker 0 pc 00100004 end exit\n\n";
-    let found = read(rt.alloc(), empty.as_bytes()).err();
-    assert_eq!(rt; found, Some(BadText::Line(2)));
+    assert!(rt; is_wrong(rt.alloc(), empty, 2));
     let wrong = TWO_THREADS.replace(rt.alloc(), "block 1 ", "block 2 ")?;
-    let found = read(rt.alloc(), wrong.as_bytes()).err();
-    assert_eq!(rt; found, Some(BadText::Line(2)));
+    assert!(rt; is_wrong(rt.alloc(), &wrong, 2));
     Ok(())
 }
 
 /// The line of a block before lines had a pc.
 const OLD_LINE: &str = "block 0 thread 0 turns 2 held - kind start worker 0 end exit\n";
 
-/// An old text is read by its own reading alone, and names its first wrong line in the same way.
+/// An old text is read by its own reading alone.
 #[test]
 fn an_old_text_is_read(rt: HostRuntime) -> Result<(), Fail> {
     let old = BlockV1 {
@@ -224,28 +227,44 @@ fn an_old_text_is_read(rt: HostRuntime) -> Result<(), Fail> {
         end: End::Exit,
     };
     let blocks = read_v1(rt.alloc(), OLD_LINE.as_bytes())?;
-    assert_eq!(rt; blocks.as_slice(), [old].as_slice());
+    assert!(rt; blocks.as_slice() == [old].as_slice());
+    Ok(())
+}
+
+/// Whether the reading of old texts names this line of a text as its first wrong one.
+fn is_wrong_old(alloc: Global, text: &str, line: u64) -> bool {
+    read_v1(alloc, text.as_bytes()).err() == Some(BadText::Line(line))
+}
+
+#[test]
+fn a_wrong_line_of_an_old_text_is_named(rt: HostRuntime) -> Result<(), Fail> {
     for line in ["\n", OLD_LINE] {
         let text = format!(in rt.alloc(); "{OLD_LINE}{line}")?;
-        let found = read_v1(rt.alloc(), text.as_bytes()).err();
-        assert_eq!(rt; found, Some(BadText::Line(2)), "{line}");
+        assert!(rt; is_wrong_old(rt.alloc(), &text, 2), "{line}");
     }
-    let found = read_v1(rt.alloc(), TWO_THREADS.as_bytes()).err();
-    assert_eq!(rt; found, Some(BadText::Line(1)));
+    assert!(rt; is_wrong_old(rt.alloc(), TWO_THREADS, 1));
     Ok(())
+}
+
+/// The last block of an adopted section of lock 3, of thread 1 and worker 2.
+fn released() -> Block {
+    let held = Held::none().plus(3);
+    block(4, 1, 9, held, Kind::Adopted, 2, 0, End::Unlocked(3))
+}
+
+#[test]
+fn a_block_with_its_lock_alone_is_a_section(rt: HostRuntime) {
+    let last = released();
+    assert!(rt; last.begins(3) && last.takes() == Some(3));
+    assert!(rt; run_after(3, 0, &last) == 1);
+    assert!(rt; last.ends_section(3) && !last.ends_section(4));
 }
 
 /// A guest's lock 3 is released; then a waiter may be adopted by the same worker alone, or, where
 /// the streak is at the limit, granted to each.
 #[test]
 fn a_section_follows_by_the_batch_rule(rt: HostRuntime) {
-    let held = Held::none().plus(3);
-    let last = block(4, 1, 9, held, Kind::Adopted, 2, 0, End::Unlocked(3));
-    assert!(rt; last.begins(3));
-    assert!(rt; last.takes() == Some(3));
-    assert_eq!(rt; run_after(3, 0, &last), 1);
-    assert!(rt; last.ends_section(3));
-    assert!(rt; !last.ends_section(4));
+    let last = released();
     for (run, kind, worker, want) in [
         (1, Kind::Adopted, 2, true),
         (1, Kind::Adopted, 0, false),
@@ -259,10 +278,13 @@ fn a_section_follows_by_the_batch_rule(rt: HostRuntime) {
         let may = may_begin(3, 2, Some(last), run, kind, worker);
         assert!(rt; may == want, "{kind:?} {worker}");
     }
-    // A thread may take the lock again, but is not adopted after itself.
-    assert!(rt; passes_to(Some(last), Kind::Taken, 1));
-    assert!(rt; !passes_to(Some(last), Kind::Adopted, 1));
-    assert!(rt; passes_to(Some(last), Kind::Adopted, 0));
     assert!(rt; may_begin(3, 2, None, 0, Kind::Taken, 0));
     assert!(rt; !may_begin(3, 2, None, 0, Kind::Granted, 0));
+}
+
+#[test]
+fn a_thread_takes_a_lock_again_and_is_not_adopted_after_itself(rt: HostRuntime) {
+    let last = Some(released());
+    assert!(rt; passes_to(last, Kind::Taken, 1));
+    assert!(rt; passes_to(last, Kind::Adopted, 0) && !passes_to(last, Kind::Adopted, 1));
 }

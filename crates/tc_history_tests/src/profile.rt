@@ -1,6 +1,6 @@
 //! The profiles of two short histories.
 
-ghost use Rattle.std.specs.Prelude.{◌≡◌, ℕ, ◌+◌, ◌<◌, ◌^◌, true, length};
+ghost use Rattle.std.specs.Prelude.{◌≡◌, ℕ, ◌+◌, ◌<◌, ◌^◌, true, length, IfOk};
 ghost use Rattle.tc_isa.specs.Sets.{has};
 
 use std::alloc::Global;
@@ -120,6 +120,18 @@ fn add_all<R: Abort>(rt: &R, image: &Image, profile: &mut Profile, history: &[Bl
     }
 }
 
+/// The profile of a history.
+fn profile_of<R: Abort>(rt: &R, alloc: Global, image: &Image, lines: &str) -> Result<Profile, Fail>
+    ensures threads { IfOk result (λ p. p.threads ≡ length image.now.entries) }
+    ensures locks { IfOk result (λ p. p.locks ≡ length image.now.guards) }
+{
+    let history = read(alloc, lines.as_bytes())?;
+    assert!(rt; history.len() < 1000);
+    let mut profile = Profile::new(alloc, image)?;
+    add_all(rt, image, &mut profile, &history);
+    Ok(profile)
+}
+
 /// The profile of a history has this text.
 fn check<R: Abort>(
     rt: &R,
@@ -128,12 +140,9 @@ fn check<R: Abort>(
     lines: &str,
     text: &str,
 ) -> Result<(), Fail> {
-    let history = read(alloc, lines.as_bytes())?;
-    assert!(rt; history.len() < 1000);
-    let mut profile = Profile::new(alloc, image)?;
-    add_all(rt, image, &mut profile, &history);
+    let profile = profile_of(rt, alloc, image, lines)?;
     let written = profile_text(alloc, image, &profile)?;
-    assert_eq!(rt; written.as_slice(), text.as_bytes());
+    assert!(rt; written.as_slice() == text.as_bytes());
     Ok(())
 }
 

@@ -1,6 +1,7 @@
 //! Histories that are accepted, and the reasons for which others are rejected.
 
-ghost use Rattle.std.specs.Prelude.{◌≡◌, Some};
+ghost use Rattle.std.specs.Prelude.{◌≡◌, ◌≤◌, Some, length};
+ghost use Rattle.tc_journal.specs.History.{IsInOrder};
 
 use std::alloc::{AllocError, Global};
 use std::process::Abort;
@@ -8,6 +9,7 @@ use std::test::Fail;
 use tc_build::build::{DATA_START, build};
 use tc_elf::image::Image;
 use tc_elf::load::load;
+use tc_journal::block::Block;
 use tc_journal::reading::read;
 use tc_replay::Terms;
 use tc_replay::checker::Checker;
@@ -99,6 +101,17 @@ const FIRST_EXITS: &str = "block 5 thread 0 turns 2 held - kind on worker 0 pc 0
 const SECOND_EXITS: &str =
     "block 6 thread 1 turns 2 held - kind on worker 1 pc 00100058 end exit\n";
 
+/// The whole run.
+const RUN: [&str; 7] = [
+    FIRST_WANTS,
+    FIRST_DOZES,
+    SECOND_WANTS,
+    FIRST_UNLOCKS,
+    SECOND_ADDS,
+    FIRST_EXITS,
+    SECOND_EXITS,
+];
+
 /// The second thread takes the lock while the first one holds it, asleep.
 const TAKES_TOO_EARLY: &str =
     "block 3 thread 1 turns 7 held 0 kind taken worker 1 pc 0010003c end unlocked 0\n";
@@ -154,6 +167,28 @@ fn behind<'a>(front: &'a [&'a str], last: &'a str, rejected: Option<(u64, Reason
     }
 }
 
+/// The image of threads with this code, and with a guard of one zero word.
+fn image_of(alloc: Global, code: &[u32], entries: &[(u32, u32)]) -> Result<Image, Fail>
+    requires code { length code.now ≤ 24 }
+    requires entries { (1 ≤ length entries.now) × (length entries.now ≤ 2) }
+{
+    let file = build(alloc, code, entries, &[0; 4], &[(DATA_START, 4)])?;
+    Ok(load(alloc, &file)?)
+}
+
+/// At which line a case's history is rejected, and why, if it is.
+fn found(
+    alloc: Global,
+    image: &Image,
+    terms: Terms,
+    case: &Case,
+) -> Result<Option<(u64, Reason)>, Fail> {
+    let text = joined(alloc, case)?;
+    let history = read(alloc, text.as_bytes())?;
+    let found = check(alloc, image, terms, &history)?;
+    Ok(found.map(|r| (r.line, r.reason)))
+}
+
 /// Each of these histories is found to be what its case says.
 fn check_cases<R: Abort>(
     rt: &R,
@@ -162,132 +197,111 @@ fn check_cases<R: Abort>(
     terms: Terms,
     cases: &[Case],
 ) -> Result<(), Fail> {
-    for case in cases {
-        let text = joined(alloc, case)?;
-        let history = read(alloc, text.as_bytes())?;
-        let found = check(alloc, image, terms, &history)?;
-        let rejected = found.map(|r| (r.line, r.reason));
-        assert_eq!(rt; rejected, case.rejected);
+    for (number, case) in cases.iter().enumerate() {
+        let rejected = found(alloc, image, terms, case)?;
+        assert!(rt; rejected == case.rejected, "case {number}");
     }
     Ok(())
 }
 
-#[test]
-fn a_lone_thread_is_rejected_for_each_reason(rt: HostRuntime) -> Result<(), Fail> {
-    let alloc = rt.alloc();
-    let image = load(alloc, &SMALLEST)?;
-    let cases = [
-        Case {
-            front: &[],
-            last: EXITS,
-            rejected: None,
-        },
-        Case {
-            front: &[],
-            last: "block 0 thread 0 turns 1 held - kind start worker 0 pc 00010054 end exit\n",
-            rejected: Some((1, Reason::Block)),
-        },
-        Case {
-            front: &[],
-            last: "block 0 thread 0 turns 2 held - kind on worker 0 pc 00010054 end exit\n",
-            rejected: Some((1, Reason::Kind)),
-        },
-        Case {
-            front: &[],
-            last: "block 0 thread 0 turns 2 held - kind start worker 1 pc 00010054 end exit\n",
-            rejected: Some((1, Reason::Worker)),
-        },
-        Case {
-            front: &[],
-            last: "block 0 thread 1 turns 2 held - kind start worker 0 pc 00010054 end exit\n",
-            rejected: Some((1, Reason::Thread)),
-        },
-        Case {
-            front: &[],
-            last: "",
-            rejected: Some((1, Reason::Incomplete)),
-        },
-    ];
-    check_cases(&rt, alloc, &image, ALONE, &cases)
+/// Histories of the lone thread: the right one, and one for each reason.
+fn cases_of_one() -> [Case<'static>; 6] {
+    [
+        behind(&[], EXITS, None),
+        behind(
+            &[],
+            "block 0 thread 0 turns 1 held - kind start worker 0 pc 00010054 end exit\n",
+            Some((1, Reason::Block)),
+        ),
+        behind(
+            &[],
+            "block 0 thread 0 turns 2 held - kind on worker 0 pc 00010054 end exit\n",
+            Some((1, Reason::Kind)),
+        ),
+        behind(
+            &[],
+            "block 0 thread 0 turns 2 held - kind start worker 1 pc 00010054 end exit\n",
+            Some((1, Reason::Worker)),
+        ),
+        behind(
+            &[],
+            "block 0 thread 1 turns 2 held - kind start worker 0 pc 00010054 end exit\n",
+            Some((1, Reason::Thread)),
+        ),
+        behind(&[], "", Some((1, Reason::Incomplete))),
+    ]
 }
 
 #[test]
-fn two_threads_are_rejected_where_they_go_wrong(rt: HostRuntime) -> Result<(), Fail> {
-    let alloc = rt.alloc();
-    let entries = [(0x0010_0000, 0), (0x0010_0030, 0)];
-    let file = build(alloc, &DOZE_AND_ADD, &entries, &[0; 4], &[(DATA_START, 4)])?;
-    let image = load(alloc, &file)?;
-    let run = [
-        FIRST_WANTS,
-        FIRST_DOZES,
-        SECOND_WANTS,
-        FIRST_UNLOCKS,
-        SECOND_ADDS,
-        FIRST_EXITS,
-        SECOND_EXITS,
-    ];
-    let cases = [
-        behind(&run, "", None),
+fn a_lone_thread_is_rejected_for_each_reason(rt: HostRuntime) -> Result<(), Fail> {
+    let image = load(rt.alloc(), &SMALLEST)?;
+    check_cases(&rt, rt.alloc(), &image, ALONE, &cases_of_one())
+}
+
+/// The run of the two threads, and where it goes wrong.
+fn cases_of_two<'a>(run: &'a [&'a str; 7]) -> [Case<'a>; 7] {
+    [
+        behind(run, "", None),
         behind(&run[..3], TAKES_TOO_EARLY, Some((4, Reason::Owner))),
         behind(&run[..3], HOLDS_NOTHING, Some((4, Reason::Block))),
         behind(&run[..4], ADOPTED_ELSEWHERE, Some((5, Reason::Kind))),
         behind(&run[..4], GRANTED, Some((5, Reason::Kind))),
         behind(&run[..6], EXITS_AGAIN, Some((7, Reason::Thread))),
         behind(&run[..6], "", Some((7, Reason::Incomplete))),
-    ];
-    check_cases(&rt, alloc, &image, TWO, &cases)
+    ]
+}
+
+#[test]
+fn two_threads_are_rejected_where_they_go_wrong(rt: HostRuntime) -> Result<(), Fail> {
+    let entries = [(0x0010_0000, 0), (0x0010_0030, 0)];
+    let image = image_of(rt.alloc(), &DOZE_AND_ADD, &entries)?;
+    check_cases(&rt, rt.alloc(), &image, TWO, &cases_of_two(&RUN))
 }
 
 #[test]
 fn a_thread_may_adopt_its_own_section(rt: HostRuntime) -> Result<(), Fail> {
-    let alloc = rt.alloc();
-    let file = build(
-        alloc,
-        &TWICE,
-        &[(0x0010_0000, 0)],
-        &[0; 4],
-        &[(DATA_START, 4)],
-    )?;
-    let image = load(alloc, &file)?;
-    let accepted = [Case {
-        front: &[],
-        last: OWN,
-        rejected: None,
-    }];
-    check_cases(&rt, alloc, &image, TWO, &accepted)?;
-    let rejected = [Case {
-        front: &[],
-        last: OWN,
-        rejected: Some((4, Reason::Kind)),
-    }];
-    check_cases(&rt, alloc, &image, ALONE, &rejected)
+    let image = image_of(rt.alloc(), &TWICE, &[(0x0010_0000, 0)])?;
+    check_cases(&rt, rt.alloc(), &image, TWO, &[behind(&[], OWN, None)])?;
+    let rejected = behind(&[], OWN, Some((4, Reason::Kind)));
+    check_cases(&rt, rt.alloc(), &image, ALONE, &[rejected])
 }
 
-#[test]
-fn what_an_accepted_history_leaves_is_given_away(rt: HostRuntime) -> Result<(), Fail> {
-    let alloc = rt.alloc();
-    let image = load(alloc, &SMALLEST)?;
-    let history = read(alloc, EXITS.as_bytes())?;
-    match checked(alloc, &image, ALONE, &history)? {
-        Verdict::Accepted(checker) => {
-            assert_eq!(rt; checker.unfinished(), None);
-            let (packages, states) = checker.parts();
-            assert_eq!(rt; packages.len(), 1);
-            assert_eq!(rt; states.len(), 0);
-            assert_eq!(rt; packages[0].status(), Status::Exited);
-            assert_eq!(rt; packages[0].fuel(), 98);
-            assert_eq!(rt; packages[0].log(), history.as_slice());
-        }
-        Verdict::Rejected(_) => assert!(rt; false),
-    }
+/// The only history of the lone thread is accepted, and leaves its package.
+fn check_left<R: Abort>(
+    rt: &R,
+    alloc: Global,
+    image: &Image,
+    history: &[Block],
+) -> Result<(), AllocError>
+    requires { IsInOrder history.now }
+{
+    let Verdict::Accepted(checker) = checked(alloc, image, ALONE, history)? else {
+        panic!(rt; "it is the only history")
+    };
+    assert!(rt; checker.unfinished().is_none());
+    let (packages, states) = checker.parts();
+    assert!(rt; packages.len() == 1 && states.is_empty());
+    assert!(rt; packages[0].status() == Status::Exited && packages[0].fuel() == 98);
+    assert!(rt; packages[0].log() == history);
     Ok(())
 }
 
 #[test]
+fn what_an_accepted_history_leaves_is_given_away(rt: HostRuntime) -> Result<(), Fail> {
+    let image = load(rt.alloc(), &SMALLEST)?;
+    let history = read(rt.alloc(), EXITS.as_bytes())?;
+    check_left(&rt, rt.alloc(), &image, &history)?;
+    Ok(())
+}
+
+/// The first thread that has not ended where no block was taken.
+fn first_unfinished(alloc: Global, image: &Image) -> Result<Option<u32>, AllocError> {
+    Ok(Checker::new(alloc, image, ALONE)?.unfinished())
+}
+
+#[test]
 fn a_new_checker_has_no_thread_that_ended(rt: HostRuntime) -> Result<(), Fail> {
-    let alloc = rt.alloc();
-    let image = load(alloc, &SMALLEST)?;
-    let checker = Checker::new(alloc, &image, ALONE)?;
-    assert_eq!(rt; checker.unfinished(), Some(0));
+    let image = load(rt.alloc(), &SMALLEST)?;
+    assert!(rt; first_unfinished(rt.alloc(), &image)? == Some(0));
     Ok(())
 }

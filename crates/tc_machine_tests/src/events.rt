@@ -1,7 +1,10 @@
+ghost use Rattle.std.specs.Prelude.{◌≤◌};
 ghost use Rattle.tc_core.specs.View.{IsCoreOf};
+ghost use Rattle.tc_isa.specs.declared.limits.TheConstants.{MAX_BATCH};
 
 use crate::guests::{DOZE, NEST, ONE, image_of};
-use std::alloc::Global;
+use std::alloc::{AllocError, Global};
+use std::process::Abort;
 use std::test::Fail;
 use tc_core::event::Event;
 use tc_core::machine::Core;
@@ -137,22 +140,53 @@ fn is_at(core: &Core, scene: &Scene) -> bool {
         && lock_place(core, 1) == scene.locks[1]
 }
 
-/// How many rows from the first on went as they are written.
-fn walked(core: &mut Core, image: &Image, rows: &[Scene]) -> u32
+/// Each row goes as it is written.
+fn walk<R: Abort>(rt: &R, core: &mut Core, image: &Image, rows: &[Scene])
     requires { IsCoreOf image.now core.old }
     ensures { IsCoreOf image.now core.new }
 {
-    let mut count: u32 = 0;
-    for scene in rows {
-        if !repeat(core, image, scene.deed) || !is_at(core, scene) {
-            return count;
-        }
-        count = count.saturating_add(1);
+    for (number, scene) in rows.iter().enumerate() {
+        let went = repeat(core, image, scene.deed) && is_at(core, scene);
+        assert!(rt; went, "row {number}");
     }
-    count
 }
 
-/// Thread 0 runs to its lock and takes it, and thread 1 waits for it: 11 rows.
+/// A deed, and whether its event is enabled each time.
+type Try = (Deed, bool);
+
+/// Each is enabled, or not, as it is written beside it.
+fn try_all<R: Abort>(rt: &R, core: &mut Core, image: &Image, tries: &[Try])
+    requires { IsCoreOf image.now core.old }
+    ensures { IsCoreOf image.now core.new }
+{
+    for (number, one) in tries.iter().enumerate() {
+        assert!(rt; repeat(core, image, one.0) == one.1, "try {number}");
+    }
+}
+
+/// What holds of a guest with so many workers and this limit: it goes as these rows say, the one
+/// part behind the other, and then these tries do.
+fn check<R: Abort>(
+    rt: &R,
+    alloc: Global,
+    words: &[u32],
+    workers: u32,
+    limit: u32,
+    rows: [&[Scene]; 2],
+    tries: &[Try],
+) -> Result<(), Fail>
+    requires workers { (1 ≤ workers) × (workers ≤ 3) }
+    requires limit { limit ≤ MAX_BATCH }
+{
+    let image = image_of(alloc, words)?;
+    let mut core = Core::new(alloc, &image, 100, workers, limit)?;
+    walk(rt, &mut core, &image, rows[0]);
+    walk(rt, &mut core, &image, rows[1]);
+    try_all(rt, &mut core, &image, tries);
+    Ok(())
+}
+
+/// Thread 0 runs to its lock and takes it, and thread 1 waits for it.
 fn up_to_the_wait() -> [Scene; 11] {
     [
         row(claim(0, 0), [At(0), Ready, Ready], Free, Free),
@@ -169,12 +203,9 @@ fn up_to_the_wait() -> [Scene; 11] {
     ]
 }
 
-#[test]
-fn a_waiter_is_adopted(rt: HostRuntime) -> Result<(), Fail> {
-    let image = image_of(rt.alloc(), &ONE)?;
-    let mut core = Core::new(rt.alloc(), &image, 100, 2, 4)?;
-    assert_eq!(rt; walked(&mut core, &image, &up_to_the_wait()), 11);
-    let rows = [
+/// Thread 1 is adopted by worker 0, and both threads end.
+fn from_the_adoption() -> [Scene; 16] {
+    [
         row(turns(0, 0, 6), [At(0), Waiting(0), Ready], With(0), Free),
         row(commit(0, 0), [At(0), Waiting(0), Ready], Loose(0), Free),
         row(adopt(0, 1, 0), [At(0), At(0), Ready], Granted(1), Free),
@@ -191,17 +222,25 @@ fn a_waiter_is_adopted(rt: HostRuntime) -> Result<(), Fail> {
         row(turns(1, 1, 2), [Done, At(1), Ready], Free, Free),
         row(commit(1, 1), [Done, At(1), Ready], Free, Free),
         row(finish(1, 1), [Done, Done, Ready], Free, Free),
-    ];
-    assert_eq!(rt; walked(&mut core, &image, &rows), 16);
-    Ok(())
+    ]
 }
 
 #[test]
-fn a_waiter_is_granted_the_lock(rt: HostRuntime) -> Result<(), Fail> {
-    let image = image_of(rt.alloc(), &ONE)?;
-    let mut core = Core::new(rt.alloc(), &image, 100, 2, 0)?;
-    assert_eq!(rt; walked(&mut core, &image, &up_to_the_wait()), 11);
-    let rows = [
+fn a_waiter_is_adopted(rt: HostRuntime) -> Result<(), Fail> {
+    check(
+        &rt,
+        rt.alloc(),
+        &ONE,
+        2,
+        4,
+        [&up_to_the_wait(), &from_the_adoption()],
+        &[],
+    )
+}
+
+/// Thread 1 is granted the lock, and worker 1 runs its section.
+fn from_the_grant() -> [Scene; 8] {
+    [
         row(turns(0, 0, 6), [At(0), Waiting(0), Ready], With(0), Free),
         row(commit(0, 0), [At(0), Waiting(0), Ready], Loose(0), Free),
         row(grant(0, 1, 0), [At(0), Ready, Ready], Granted(1), Free),
@@ -210,17 +249,25 @@ fn a_waiter_is_granted_the_lock(rt: HostRuntime) -> Result<(), Fail> {
         row(commit(1, 1), [At(0), At(1), Ready], Loose(1), Free),
         row(leave(1, 0), [At(0), At(1), Ready], Loose(1), Free),
         row(set_free(1, 0), [At(0), At(1), Ready], Free, Free),
-    ];
-    assert_eq!(rt; walked(&mut core, &image, &rows), 8);
-    Ok(())
+    ]
 }
 
 #[test]
-fn a_thread_sleeps_with_its_lock(rt: HostRuntime) -> Result<(), Fail> {
-    let image = image_of(rt.alloc(), &DOZE)?;
-    let mut core = Core::new(rt.alloc(), &image, 100, 2, 4)?;
-    assert_eq!(rt; walked(&mut core, &image, &up_to_the_wait()), 11);
-    let rows = [
+fn a_waiter_is_granted_the_lock(rt: HostRuntime) -> Result<(), Fail> {
+    check(
+        &rt,
+        rt.alloc(),
+        &ONE,
+        2,
+        0,
+        [&up_to_the_wait(), &from_the_grant()],
+        &[],
+    )
+}
+
+/// Thread 0 sleeps with its lock, and worker 1 runs the rest of its section.
+fn from_the_sleep() -> [Scene; 7] {
+    [
         row(turns(0, 0, 3), [At(0), Waiting(0), Ready], With(0), Free),
         row(commit(0, 0), [At(0), Waiting(0), Ready], With(0), Free),
         row(park(0, 0), [Parked, Waiting(0), Ready], With(0), Free),
@@ -228,9 +275,20 @@ fn a_thread_sleeps_with_its_lock(rt: HostRuntime) -> Result<(), Fail> {
         row(turns(1, 0, 3), [At(1), Waiting(0), Ready], With(0), Free),
         row(commit(1, 0), [At(1), Waiting(0), Ready], Loose(1), Free),
         row(adopt(1, 1, 0), [At(1), At(1), Ready], Granted(1), Free),
-    ];
-    assert_eq!(rt; walked(&mut core, &image, &rows), 7);
-    Ok(())
+    ]
+}
+
+#[test]
+fn a_thread_sleeps_with_its_lock(rt: HostRuntime) -> Result<(), Fail> {
+    check(
+        &rt,
+        rt.alloc(),
+        &DOZE,
+        2,
+        4,
+        [&up_to_the_wait(), &from_the_sleep()],
+        &[],
+    )
 }
 
 /// Thread 0 takes lock 1 and thread 1 takes lock 0, each at its worker. Thread 2 waits for lock 0.
@@ -289,30 +347,12 @@ fn was_released_by(core: &Core, lock: u32, held: Held) -> bool {
 fn a_waiter_is_shipped_with_the_lock_that_it_holds(rt: HostRuntime) -> Result<(), Fail> {
     let image = image_of(rt.alloc(), &NEST)?;
     let mut core = Core::new(rt.alloc(), &image, 100, 3, 4)?;
-    assert_eq!(rt; walked(&mut core, &image, &up_to_the_nest()), 17);
-    assert_eq!(rt; walked(&mut core, &image, &through_the_nest()), 14);
+    walk(&rt, &mut core, &image, &up_to_the_nest());
+    walk(&rt, &mut core, &image, &through_the_nest());
     // Lock 1 was last released by the block that had both, lock 0 by the one that had it alone.
     assert!(rt; was_released_by(&core, 1, Held::none().plus(0).plus(1)));
     assert!(rt; was_released_by(&core, 0, Held::none().plus(0)));
     Ok(())
-}
-
-/// A deed, and whether its event is enabled each time.
-type Try = (Deed, bool);
-
-/// How many from the first on were enabled, or not, as it is written beside them.
-fn tried(core: &mut Core, image: &Image, tries: &[Try]) -> u32
-    requires { IsCoreOf image.now core.old }
-    ensures { IsCoreOf image.now core.new }
-{
-    let mut count: u32 = 0;
-    for one in tries {
-        if repeat(core, image, one.0) != one.1 {
-            return count;
-        }
-        count = count.saturating_add(1);
-    }
-    count
 }
 
 /// The worker passes the lock on to the thread: by Adopt, or by Grant.
@@ -324,7 +364,7 @@ fn pass(adopted: bool, worker: u32, thread: u32, lock: u32) -> Deed {
     }
 }
 
-/// Up to the event in which thread 0 enters the queue of lock 1: 21 rows.
+/// Up to the event in which thread 0 enters the queue of lock 1.
 fn to_the_entry() -> [Try; 21] {
     [
         // No such worker, no such thread; at no worker.
@@ -355,7 +395,7 @@ fn to_the_entry() -> [Try; 21] {
     ]
 }
 
-/// Up to the event in which thread 0 releases lock 1, while threads 1 and 2 are in its queue: 22 rows.
+/// Up to the event in which thread 0 releases lock 1, while threads 1 and 2 are in its queue.
 fn to_the_line() -> [Try; 22] {
     [
         // In the line, and the lock is free; first in it; at another worker.
@@ -387,7 +427,7 @@ fn to_the_line() -> [Try; 22] {
     ]
 }
 
-/// Lock 1 goes to thread 1, and thread 0 leaves lock 0: 18 rows.
+/// Lock 1 goes to thread 1, and thread 0 leaves lock 0.
 fn to_the_leave(adopted: bool) -> [Try; 18] {
     [
         // The second of the line does not wait yet.
@@ -415,7 +455,7 @@ fn to_the_leave(adopted: bool) -> [Try; 18] {
     ]
 }
 
-/// Lock 1 goes on to thread 2, and thread 0 ends: 27 rows.
+/// Lock 1 goes on to thread 2, and thread 0 ends.
 fn to_the_end(adopted: bool) -> [Try; 27] {
     [
         (claim(1, 1), true),
@@ -452,6 +492,24 @@ fn to_the_end(adopted: bool) -> [Try; 27] {
     ]
 }
 
+/// All these tries, where a waiter is adopted, or else is granted the lock.
+fn check_conditions<R: Abort>(
+    rt: &R,
+    alloc: Global,
+    image: &Image,
+    limit: u32,
+    adopted: bool,
+) -> Result<(), AllocError>
+    requires { limit ≤ MAX_BATCH }
+{
+    let mut core = Core::new(alloc, image, 100, 3, limit)?;
+    try_all(rt, &mut core, image, &to_the_entry());
+    try_all(rt, &mut core, image, &to_the_line());
+    try_all(rt, &mut core, image, &to_the_leave(adopted));
+    try_all(rt, &mut core, image, &to_the_end(adopted));
+    Ok(())
+}
+
 /// Each event is tried where just one of its conditions fails. A condition that never fails alone
 /// has no row: a number out of range is at no worker and in no line, and a LOCK within a block ends
 /// the block before it. That a thread which enters a line runs fails alone in the next test.
@@ -464,25 +522,14 @@ fn each_condition_counts(rt: HostRuntime) -> Result<(), Fail> {
     words[61] = 0x00000013;
     words[62] = 0x00000013;
     let image = image_of(rt.alloc(), &words)?;
-    for (limit, adopted) in [(4, true), (0, false)] {
-        let mut core = Core::new(rt.alloc(), &image, 100, 3, limit)?;
-        assert_eq!(rt; tried(&mut core, &image, &to_the_entry()), 21);
-        assert_eq!(rt; tried(&mut core, &image, &to_the_line()), 22);
-        assert_eq!(rt; tried(&mut core, &image, &to_the_leave(adopted)), 18);
-        assert_eq!(rt; tried(&mut core, &image, &to_the_end(adopted)), 27);
-    }
+    check_conditions(&rt, rt.alloc(), &image, 4, true)?;
+    check_conditions(&rt, rt.alloc(), &image, 0, false)?;
     Ok(())
 }
 
-#[test]
-fn a_thread_that_ended_at_a_lock_enters_no_line(rt: HostRuntime) -> Result<(), Fail> {
-    // Thread 2 takes lock 1, and then wants lock 0, which is out of order.
-    let mut words = NEST;
-    words[71] = 0x00100513;
-    words[74] = 0x00000513;
-    let image = image_of(rt.alloc(), &words)?;
-    let mut core = Core::new(rt.alloc(), &image, 100, 3, 4)?;
-    let tries = [
+/// Thread 2 ends in a fault at a LOCK of lock 0, with lock 1.
+fn to_the_fault() -> [Try; 13] {
+    [
         (claim(0, 2), true),
         (turns(0, 2, 2), true),
         (commit(0, 2), true),
@@ -498,17 +545,21 @@ fn a_thread_that_ended_at_a_lock_enters_no_line(rt: HostRuntime) -> Result<(), F
         (leave(0, 1), true),
         (set_free(0, 1), true),
         (finish(0, 2), true),
-    ];
-    assert_eq!(rt; tried(&mut core, &image, &tries), 13);
-    Ok(())
+    ]
 }
 
 #[test]
-fn only_a_thread_that_has_slept_is_parked(rt: HostRuntime) -> Result<(), Fail> {
-    let image = image_of(rt.alloc(), &DOZE)?;
-    let mut core = Core::new(rt.alloc(), &image, 100, 2, 4)?;
-    assert_eq!(rt; walked(&mut core, &image, &up_to_the_wait()), 11);
-    let tries = [
+fn a_thread_that_ended_at_a_lock_enters_no_line(rt: HostRuntime) -> Result<(), Fail> {
+    // Thread 2 takes lock 1, and then wants lock 0, which is out of order.
+    let mut words = NEST;
+    words[71] = 0x00100513;
+    words[74] = 0x00000513;
+    check(&rt, rt.alloc(), &words, 3, 4, [&[], &[]], &to_the_fault())
+}
+
+/// Thread 0 sleeps, and then releases its lock.
+fn around_the_sleep() -> [Try; 8] {
+    [
         (turns(0, 0, 3), true),
         (commit(0, 0), true),
         // At another worker; inside a block; after an UNLOCK.
@@ -518,7 +569,18 @@ fn only_a_thread_that_has_slept_is_parked(rt: HostRuntime) -> Result<(), Fail> {
         (turns(0, 0, 2), true),
         (commit(0, 0), true),
         (park(0, 0), false),
-    ];
-    assert_eq!(rt; tried(&mut core, &image, &tries), 8);
-    Ok(())
+    ]
+}
+
+#[test]
+fn only_a_thread_that_has_slept_is_parked(rt: HostRuntime) -> Result<(), Fail> {
+    check(
+        &rt,
+        rt.alloc(),
+        &DOZE,
+        2,
+        4,
+        [&up_to_the_wait(), &[]],
+        &around_the_sleep(),
+    )
 }

@@ -14,6 +14,7 @@ use tc_build::build::{MAX_CODE_WORDS, build};
 use tc_core::event::Event;
 use tc_elf::image::Image;
 use tc_elf::load::load;
+use tc_journal::block::Block;
 use tc_journal::reading::read;
 use tc_told::writer::Writer;
 
@@ -190,6 +191,34 @@ fn perform_all<R: Abort>(
     Ok(())
 }
 
+/// The history is that of these lines.
+fn check_history<R: Abort>(
+    rt: &R,
+    alloc: Global,
+    history: &[Block],
+    lines: &str,
+) -> Result<(), Fail> {
+    let told = read(alloc, lines.as_bytes())?;
+    assert!(rt; history == told.as_slice());
+    Ok(())
+}
+
+/// What `check` shows, of the guest's image.
+fn check_image<R: Abort>(
+    rt: &R,
+    alloc: Global,
+    image: &Image,
+    limit: u32,
+    rows: &[Row<'_>],
+    lines: &str,
+) -> Result<(), Fail>
+    requires { limit ≤ MAX_BATCH }
+{
+    let mut writer = Writer::new(alloc, image, 100, 2, limit)?;
+    perform_all(rt, &mut writer, image, rows)?;
+    check_history(rt, alloc, writer.history(), lines)
+}
+
 /// All that the rows say is enabled when it comes, and it writes the history of these lines.
 fn check<R: Abort>(
     rt: &R,
@@ -202,11 +231,7 @@ fn check<R: Abort>(
     requires { limit ≤ MAX_BATCH }
 {
     let image = image_of(rt, alloc, guest)?;
-    let mut writer = Writer::new(alloc, &image, 100, 2, limit)?;
-    perform_all(rt, &mut writer, &image, rows)?;
-    let told = read(alloc, lines.as_bytes())?;
-    assert_eq!(rt; writer.history(), told.as_slice());
-    Ok(())
+    check_image(rt, alloc, &image, limit, rows, lines)
 }
 
 /// A free lock is taken, left while the next thread is already in its queue, and taken again.

@@ -34,9 +34,8 @@ fn a_lock_goes_to_a_waiter_by_the_batch_limit(rt: HostRuntime) {
         (0, 4, false, Next::Free),
     ];
     for (run, limit, waiting, next) in cases {
-        assert_eq!(rt;
-            plan(&block, 0, run, limit, waiting),
-            next,
+        assert!(rt;
+            plan(&block, 0, run, limit, waiting) == next,
             "{run} of {limit}"
         );
     }
@@ -46,16 +45,16 @@ fn a_lock_goes_to_a_waiter_by_the_batch_limit(rt: HostRuntime) {
 fn a_lock_is_granted_where_its_thread_goes_on_or_ended(rt: HostRuntime) {
     let first = Held::none().plus(0);
     let nested = section(first.plus(1), End::Unlocked(1));
-    assert_eq!(rt; plan(&nested, 1, 0, 4, true), Next::Grant);
+    assert!(rt; plan(&nested, 1, 0, 4, true) == Next::Grant);
     let ended = section(first, End::Fault(Fault::Illegal));
-    assert_eq!(rt; plan(&ended, 0, 0, 4, true), Next::Grant);
-    assert_eq!(rt; plan(&ended, 0, 0, 4, false), Next::Free);
+    assert!(rt; plan(&ended, 0, 0, 4, true) == Next::Grant);
+    assert!(rt; plan(&ended, 0, 0, 4, false) == Next::Free);
 }
 
 #[test]
 fn the_least_lock_is_passed_on_first(rt: HostRuntime) {
     let none = Held::none();
-    assert_eq!(rt; first_release(none), None);
-    assert_eq!(rt; first_release(none.plus(0)), Some(0));
-    assert_eq!(rt; first_release(none.plus(31).plus(1).plus(5)), Some(1));
+    assert!(rt; first_release(none).is_none());
+    assert!(rt; first_release(none.plus(0)) == Some(0));
+    assert!(rt; first_release(none.plus(31).plus(1).plus(5)) == Some(1));
 }

@@ -53,7 +53,7 @@ fn two_workers_claim_a_thread_each(rt: HostRuntime) -> Result<(), Fail> {
     let gate = Usher::new(&rt, alloc, Hold::Claim);
     let ran = run_at(&rt, alloc, "run 2 100 4", &file, &gate)?;
     ran.check_done(&rt);
-    assert_eq!(rt; blocks(ran.text()), Some(2));
+    assert!(rt; blocks(ran.text()) == Some(2));
     check_claims(&rt, &gate);
     Ok(())
 }
@@ -67,7 +67,7 @@ fn each_of_four_workers_claims_a_thread(rt: HostRuntime) -> Result<(), Fail> {
     let ran = run_at(&rt, alloc, "run 4 100 4", &file, &gate)?;
     ran.check_done(&rt);
     assert!(rt; gate.was_in_time());
-    assert_eq!(rt; blocks(ran.text()), Some(4));
+    assert!(rt; blocks(ran.text()) == Some(4));
     Ok(())
 }
 
@@ -89,8 +89,8 @@ fn check_counted<R: Abort>(
     thread: &str,
 ) -> Result<(), AllocError> {
     let line = format!(in alloc; "thread {thread} exit fuel 896 pc 00100038")?;
-    assert_eq!(rt; count(ran.text(), &line), 1);
-    assert_eq!(rt; turns_of(alloc, ran.text(), thread)?, 1104);
+    assert!(rt; count(ran.text(), &line) == 1);
+    assert!(rt; turns_of(alloc, ran.text(), thread)? == 1104);
     Ok(())
 }
 
@@ -112,6 +112,23 @@ fn check_reported<R: Wait + Sync + Abort>(
     Ok(())
 }
 
+/// Two threads counted to 100 each, and a waiter was adopted.
+fn check_adopted<R: Wait + Sync + Abort>(
+    rt: &R,
+    alloc: Global,
+    ran: &Ran,
+    gate: &Usher<'_, R>,
+) -> Result<(), AllocError> {
+    assert!(rt; blocks(ran.text()) == Some(402));
+    assert!(rt; gate.was_in_time());
+    check_counted(rt, alloc, ran, "0")?;
+    check_counted(rt, alloc, ran, "1")?;
+    assert!(rt; ran.text().ends_with(COUNTED_TO_200));
+    let second = ran.second(" held 0 ");
+    assert!(rt; second.contains(" kind adopted "), "{second}");
+    check_reported(rt, alloc, ran, gate)
+}
+
 /// Two workers count under one lock. The worker that releases it first waits until the other thread
 /// is shipped, and then runs that thread's section. The printed blocks of each worker are those that
 /// it reported.
@@ -122,15 +139,19 @@ fn a_thread_that_waits_is_adopted(rt: HostRuntime) -> Result<(), Fail> {
     let gate = Usher::new(&rt, alloc, Hold::Release);
     let ran = run_at(&rt, alloc, "run 2 2000 8", &file, &gate)?;
     ran.check_done(&rt);
-    assert_eq!(rt; blocks(ran.text()), Some(402));
-    assert!(rt; gate.was_in_time());
-    check_counted(&rt, alloc, &ran, "0")?;
-    check_counted(&rt, alloc, &ran, "1")?;
-    assert!(rt; ran.text().ends_with(COUNTED_TO_200));
-    let second = ran.second(" held 0 ");
-    assert!(rt; second.contains(" kind adopted "), "{second}");
-    check_reported(&rt, alloc, &ran, &gate)?;
+    check_adopted(&rt, alloc, &ran, &gate)?;
     Ok(())
+}
+
+/// Workers 0 and 1 shipped threads, each right behind its own report that the thread wants a lock.
+fn check_shipped<R: Wait + Sync + Abort>(rt: &R, gate: &Usher<'_, R>) {
+    assert!(rt; gate.was_in_time());
+    let reports = gate.reports.lock(rt);
+    assert!(rt; is_released(&reports) && are_of_two(&reports));
+    let by_0 = shipments(&reports, 0);
+    let by_1 = shipments(&reports, 1);
+    assert!(rt; by_0.is_some() && by_1.is_some(), "{by_0:?} and {by_1:?}");
+    assert!(rt; by_0 != Some(0) || by_1 != Some(0));
 }
 
 /// Workers 0 and 1 ship threads 2 and 3 alone, since threads 0 and 1 end at once. Each is shipped by
@@ -142,12 +163,6 @@ fn a_thread_is_shipped_behind_its_wish(rt: HostRuntime) -> Result<(), Fail> {
     let gate = Usher::new(&rt, alloc, Hold::Release);
     let ran = run_at(&rt, alloc, "run 2 2000 8", &file, &gate)?;
     ran.check_done(&rt);
-    assert!(rt; gate.was_in_time());
-    let reports = gate.reports.lock(&rt);
-    assert!(rt; is_released(&reports) && are_of_two(&reports));
-    let by_0 = shipments(&reports, 0);
-    let by_1 = shipments(&reports, 1);
-    assert!(rt; by_0.is_some() && by_1.is_some(), "{by_0:?} and {by_1:?}");
-    assert!(rt; by_0 != Some(0) || by_1 != Some(0));
+    check_shipped(&rt, &gate);
     Ok(())
 }

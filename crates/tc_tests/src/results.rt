@@ -108,9 +108,9 @@ fn report_of<R: Threads + Wait + Sync>(
 #[test]
 fn the_report_of_a_whole_run_is_its_text(rt: HostRuntime) -> Result<(), Fail> {
     let text = report_of(&rt, rt.alloc(), &EXIT, &[], 0)?;
-    assert_eq!(rt; text.as_slice(), EXIT_REPORT.as_bytes());
+    assert!(rt; text.as_slice() == EXIT_REPORT.as_bytes());
     let text = report_of(&rt, rt.alloc(), &ONE, &[(0x0002_0000, 4)], 4)?;
-    assert_eq!(rt; text.as_slice(), ONE_REPORT.as_bytes());
+    assert!(rt; text.as_slice() == ONE_REPORT.as_bytes());
     Ok(())
 }
 
@@ -127,7 +127,7 @@ fn each_status_has_its_number(rt: HostRuntime) {
         (Status::OutOfMemory, 5),
         (Status::Rejected(REJECTED), 6),
     ] {
-        assert_eq!(rt; status.number(), number, "{status:?}");
-        assert_eq!(rt; u32::from(exit_of(status)), number, "{status:?}");
+        assert!(rt; status.number() == number, "{status:?}");
+        assert!(rt; u32::from(exit_of(status)) == number, "{status:?}");
     }
 }

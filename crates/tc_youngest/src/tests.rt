@@ -47,7 +47,7 @@ fn the_youngest_comes_first_within_the_bound(rt: HostRuntime) -> Result<(), Fail
         (9, [3, 3, 3, 2, 1]),
     ];
     for (bound, wanted) in rows {
-        assert_eq!(rt; goes(&rt, rt.alloc(), bound)?, wanted, "bound {bound}");
+        assert!(rt; goes(&rt, rt.alloc(), bound)? == wanted, "bound {bound}");
     }
     Ok(())
 }
@@ -63,16 +63,16 @@ fn take_turns<R: Abort + Wait + Sync>(
     requires seats { IsOwnSeatOf queue.now zero.old × IsOwnSeatOf queue.now one.old }
 {
     let (first, second) = (turn(0), turn(1));
-    assert_eq!(rt; queue.enter(zero, first), Arrival::First);
+    assert!(rt; queue.enter(zero, first) == Arrival::First);
     let Arrival::Behind(place) = queue.enter(one, second) else {
         panic!(rt; "the second turn found nobody")
     };
-    assert_eq!(rt; queue.next(rt, zero, first), None);
-    assert_eq!(rt; queue.leave(rt, zero, first), Departure::Followed);
+    assert!(rt; queue.next(rt, zero, first) == None);
+    assert!(rt; queue.leave(rt, zero, first) == Departure::Followed);
     queue.link(one, place, second);
-    assert_eq!(rt; queue.next(rt, zero, first), Some(second));
-    assert_eq!(rt; queue.next(rt, one, second), None);
-    assert_eq!(rt; queue.leave(rt, one, second), Departure::Left);
+    assert!(rt; queue.next(rt, zero, first) == Some(second));
+    assert!(rt; queue.next(rt, one, second) == None);
+    assert!(rt; queue.leave(rt, one, second) == Departure::Left);
 }
 
 #[test]

@@ -15,7 +15,9 @@ mod row;
 mod words;
 
 use line::FILE;
+use std::alloc::Global;
 use std::io::{self, BufRead, BufReader};
+use tc_elf::image::Image;
 use tc_elf::load::load;
 
 /// A table of the input.
@@ -52,28 +54,55 @@ fn table_of(line: &str) -> Option<Table> {
     }
 }
 
+/// The tables, as far as they were read.
+#[derive(Drop)]
+struct Tables {
+    image: Option<Image>,
+    table: Table,
+    words: Tally,
+    pairs: Tally,
+}
+
+impl Tables {
+    /// Reads a line, and answers what stands here in its place if that differs.
+    fn read(&mut self, alloc: Global, line: &str) -> io::Result<Option<String>> {
+        if let Some(next) = table_of(line) {
+            self.table = next;
+            return Ok(None);
+        }
+        let said = match self.table {
+            Table::Words => words::said(alloc, line)?,
+            Table::Pairs => pairs::said(alloc, &self.image, line)?,
+        };
+        let agrees = said.as_str() == line;
+        match self.table {
+            Table::Words => self.words.count(agrees),
+            Table::Pairs => self.pairs.count(agrees),
+        }
+        Ok(if agrees { None } else { Some(said) })
+    }
+}
+
 fn main(rt: HostRuntime) -> io::Result<()> {
     let alloc = rt.alloc();
-    let image = load(alloc, &FILE).ok();
-    let mut table = Table::Words;
-    let mut words = Tally::new();
-    let mut pairs = Tally::new();
+    let mut tables = Tables {
+        image: load(alloc, &FILE).ok(),
+        table: Table::Words,
+        words: Tally::new(),
+        pairs: Tally::new(),
+    };
     for line in BufReader::new(alloc, rt.reader())?.lines(alloc) {
         let line = line?;
-        if let Some(next) = table_of(line.as_str()) {
-            table = next;
-            continue;
-        }
-        let (said, tally) = match table {
-            Table::Words => (words::said(alloc, line.as_str())?, &mut words),
-            Table::Pairs => (pairs::said(alloc, &image, line.as_str())?, &mut pairs),
-        };
-        let agrees = said.as_str() == line.as_str();
-        tally.count(agrees);
-        if !agrees {
+        if let Some(said) = tables.read(alloc, line.as_str())? {
             println!(rt; "the table has {line}, and here stands {said}")?;
         }
     }
-    println!(rt; "{} words: {} agree", words.lines, words.agree)?;
-    println!(rt; "{} pairs: {} agree", pairs.lines, pairs.agree)
+    println!(rt;
+        "{} words: {} agree",
+        tables.words.lines, tables.words.agree
+    )?;
+    println!(rt;
+        "{} pairs: {} agree",
+        tables.pairs.lines, tables.pairs.agree
+    )
 }
