@@ -1,26 +1,11 @@
 -- A whole block: from journals at rest to journals with an entry more.
 use Rattle.std.proofs.Common.{◌≡◌, ℕ, ◌≤◌, arith, Bool, true, false, ◌||◌, List, [], ◌∷◌, ◌++◌, length, get_or, refl, sym, ap, subst, ◌∙◌, Option, Some, None, is_some, if◌then◌else◌}
-use Rattle.std.proofs.lemmas.List.{get_or_at}
-use Rattle.tc_context.proofs.Vocabulary.{option_map, has, MAX_TURNS, Shown, is_section, ends_thread, Block, Thread, Mutex, next_lock, LockView, Journal, Opened, Closes, lock_of, with_end, with_journal, opened_at, noted, entry_from, closed_with, lock_in, mutex_of, mutex_or, when_in, Changed, EachHeld, CanClose}
-use Rattle.tc_context.proofs.Vocabulary.{opened_in, closed_in, Context, thread_in, mutex_at, whole, set_of, journal_in, journal_at, Keeps, CanGo, RunsAs, block_locks, entry_of, with_entry, entered, Journals, noted_when, words_of, MayTurn}
-use Rattle.tc_isa.specs.Registers.{Registers}
-use Rattle.tc_journal.specs.declared.block.End.{End}
-use Rattle.tc_journal.specs.declared.block.Kind.{Kind}
-use Rattle.tc_turn.specs.Replay.{Entry, Replays, replay_entry, ended, unowned}
-use Rattle.tc_mutex_spec.specs.Machine.{State}
-use Rattle.tc_mutex_spec.specs.Locality.{Agree, Apart}
-use Rattle.tc_mutex_spec.specs.Blocks.{locks_of_block, reach, Runs}
-use Rattle.tc_mutex_spec.proofs.Local.{agree_at, apart_at, covers_at}
-use Rattle.tc_mutex_spec.proofs.BlocksAlike.{covers_block}
-use Rattle.tc_context.specs.Block.{DidTurns, MayRunBlock}
-use Rattle.tc_context.specs.Ran.{slept_at}
+use Rattle.tc_context.proofs.Vocabulary.{option_map, has, MAX_TURNS, Shown, is_section, ends_thread, Block, Thread, Mutex, next_lock, LockView, Journal, Opened, Closes, lock_of, with_journal, opened_at, noted, entry_from, closed_with, lock_in, mutex_of, mutex_or, when_in, Changed, EachLock, IsReady, IsUnsealed, shut, Entry, Replays, replay_entry, ended, unowned, map_some, some_of, Registers, State, locks_of_block, reach, Runs, IsRecord, replays, replay_is, block_broken, slept_at, get_or_at, End, Kind, Agree, Apart, agree_at, apart_at, covers_at, covers_block, DidTurns, MayRunBlock}
+use Rattle.tc_context.proofs.Vocabulary.{opened_in, Context, thread_in, mutex_at, whole, set_of, journal_in, journal_at, Keeps, CanGo, RunsAs, block_locks, entry_of, with_entry, entered, Journals, noted_when, words_of, MayTurn, Entry, Replays, replay_entry, ended, unowned, map_some, some_of, Registers, State, locks_of_block, reach, Runs, IsRecord, replays, replay_is, block_broken, slept_at, get_or_at, End, Kind, Agree, Apart, agree_at, apart_at, covers_at, covers_block, DidTurns, MayRunBlock}
 use Rattle.tc_context.specs.declared.context.Turns.{Turns}
-use Rattle.tc_context.proofs.LockList.{when_field, with_locks}
+use Rattle.tc_context.proofs.LockList.{mapped_at, when_field, with_locks}
 use Rattle.tc_context.proofs.Moved.{identifies_when, keeps_changed, journals_changed, mutexes_same}
 use Rattle.tc_context.proofs.Partway.{keeps_all}
-use Rattle.tc_mutex_spec.proofs.Replaying.{IsRecord, replays, replay_is}
-use Rattle.tc_mutex_spec.proofs.Going.{block_broken}
-use Rattle.tc_mutex_spec.proofs.OptionLaws.{map_some, some_of}
 
 -- the two packages are the same part of the machine
 pub record SamePart (a b : Context) : Type 0 where
@@ -73,14 +58,17 @@ record_is image p b go held section = record {
   section = section;
 }
 
+-- in a journal that is ready no entry is open, and none is closed
+not_closed : (b : Block) (regs : Registers) (j : Journal) → IsReady j → closed_with b regs j ≡ j
+not_closed b regs j ready =
+    let closed = ap (option_map (entry_from b regs)) ready.opened ∙ sym ready.closed in
+    let opened = sym ready.opened in
+    λ i. record { image = j.image; limit = j.limit; strict = j.strict; sealed = j.sealed; closed = closed i; opened = opened i; entry_room = j.entry_room; word_room = j.word_room }
+
 -- a change of the journal alone
 journal_when : (b : Bool) (f : Journal → Journal) (g : LockView → LockView) (l : LockView) → (g l).journal ≡ f l.journal → (when_in b g l).journal ≡ when_in b f l.journal
 journal_when true f g l e = e
 journal_when false f g l e = refl
-
--- a lock that is broken where the thread ended is the same with the thread's end
-ended_broken : (end : End) (broken : Bool) → (ends_thread end ≡ true → broken ≡ true) → (ends_thread end || broken) ≡ broken
-ended_broken end broken h = (elim (ends_thread end) as (λ b. ends_thread end ≡ b → (b || broken) ≡ broken) [ true ↦ λ e. sym (h e) | false ↦ λ e. refl ]) refl
 
 -- the entries of the next block are open, and these are its locks
 pub record Begins (image : Shown) (old : Context) (held : ℕ) (locks : List (Option LockView)) : Type 0 where
@@ -131,7 +119,7 @@ module _ {image decoded : Shown} {kind : Kind} {takes : Option ℕ} {old : Conte
     };
     covers = covers_at image (block_locks image old) (has held) (thread_in old) (λ k. sym (begins.is k)) (covers_block image (thread_in old));
     opened = λ k j at h. ap (λ (i : Journal). is_some i.opened) (begun_was k j at h).2;
-    room = λ k j at h. (let w = begun_was k j at h in subst (λ n. MAX_TURNS ≤ n) (sym (ap (λ (i : Journal). i.word_room) w.2)) (may.ready k w.0 w.1 (sym (begins.is k) ∙ h)).words);
+    room = λ k j at h. (let w = begun_was k j at h in subst (λ n. MAX_TURNS ≤ n) (sym (ap (λ (i : Journal). i.word_room) w.2)) (may.ready k w.0 w.1).words);
   }
 
   module _ (pc : ℕ) {ran : Context} {t : Turns} (did : DidTurns image (has held) begun ran t) where
@@ -165,12 +153,18 @@ module _ {image decoded : Shown} {kind : Kind} {takes : Option ℕ} {old : Conte
     entry_is : (k : ℕ) → entry_of image k (whole old) made ≡ entry_from made ran.guest.regs (filled k)
     entry_is k = (let f = finish_is in let w = words_is k in λ i. record { block = made; start = old.guest.regs; fuel = old.guest.fuel; finish = sym f i; foreign = sym w i })
 
+    -- the journal of each lock, as it was before the block and is at its end
+    was_noted : (k : ℕ) (l : LockView) → lock_in ran.locks k ≡ Some l → (j : Journal) × (journal_at old k ≡ Some j) × (l.journal ≡ noted_when (has held k) (words k) (opening k j))
+    was_noted k l found =
+        let a = map_some (noted_when (has held k) (words k)) (journal_at begun k) l.journal (sym (did.journals k) ∙ ap (option_map journal_in) found) in
+        let b = map_some (opening k) (journal_at old k) a.0 (sym (begun_journals k) ∙ a.1) in
+        (b.0, b.1, a.2 ∙ ap (noted_when (has held k) (words k)) b.2)
+
     was_ready : (k : ℕ) (l : LockView) → lock_in ran.locks k ≡ Some l → has held k ≡ true
         → (j : Journal) × (journal_at old k ≡ Some j) × (l.journal ≡ noted (words k) (opened_at (unowned (mutex_at old k)) old.guest.regs old.guest.fuel j))
     was_ready k l found h =
-        let a = map_some (noted_when (has held k) (words k)) (journal_at begun k) l.journal (sym (did.journals k) ∙ ap (option_map journal_in) found) in
-        let b = begun_was k a.0 a.1 h in
-        (b.0, b.1, a.2 ∙ ap (λ v. noted_when v (words k) a.0) h ∙ ap (noted (words k)) b.2)
+        let w = was_noted k l found in
+        (w.0, w.1, w.2 ∙ ap (λ v. noted_when v (words k) (when_in v (opened_at (unowned (mutex_at old k)) old.guest.regs old.guest.fuel) w.0)) h)
 
     -- the lock as the machine has it at the block's end
     lock_is : (k : ℕ) (l : LockView) → lock_in ran.locks k ≡ Some l → has held k ≡ true → unowned ((reach image (whole old) old.thread t.count).locks k) ≡ lock_of l
@@ -191,52 +185,45 @@ module _ {image decoded : Shown} {kind : Kind} {takes : Option ℕ} {old : Conte
           lock = (λ i. replay_entry (of.of i) (of.number i) (sym entry i) (sym from i)) ∙ replay_is image k (whole old) made alone.0 alone.1 (record_is image old made may.go begins.is may.section) ∙ ap (ended t.end) (lock_is k l found h);
         }
 
+    is_broken : (k : ℕ) (l : LockView) → lock_in ran.locks k ≡ Some l → has held k ≡ true → ends_thread t.end ≡ true → l.broken ≡ true
+    is_broken k l found h ends =
+        sym (ap (λ (m : Mutex). m.broken) (lock_is k l found h)) ∙ block_broken image (whole old) alone.0 old.thread t.count t.end alone.1 k (sym (begins.is k) ∙ h) ends
+
     -- so the block may close it
-    pub may_close : EachHeld (has held) (CanClose image made ran.guest.regs) ran.locks
-    may_close k l found h = record {
-      image_is = (old_runs.keeps.of image may.go.of k l found).of;
-      opened = ap (λ (x : Journal). is_some x.opened) (was_ready k l found h).2;
-      closes = closes k l found h;
+    pub unsealed : EachLock (IsUnsealed made ran.guest.regs) ran.locks
+    unsealed k l found =
+        let w = was_noted k l found in
+        let ready = may.ready k w.0 w.1 in
+        record {
+          closed = ap (λ (x : Journal). x.closed) w.2 ∙ when_field (λ (x : Journal). x.closed) (has held k) (noted (words k)) (opening k w.0) refl
+              ∙ when_field (λ (x : Journal). x.closed) (has held k) (opened_at (unowned (mutex_at old k)) old.guest.regs old.guest.fuel) w.0 refl ∙ ready.closed;
+          others = λ out. ap (λ (x : Journal). x.opened) (w.2 ∙ ap (λ v. noted_when v (words k) (when_in v (opened_at (unowned (mutex_at old k)) old.guest.regs old.guest.fuel) w.0)) out) ∙ ready.opened;
+          opened = λ h. ap (λ (x : Journal). is_some x.opened) (was_ready k l found h).2;
+          ended = is_broken k l found;
+          closes = closes k l found;
+        }
+
+    abbrev shuts : LockView → LockView
+    shuts = with_journal (closed_with made ran.guest.regs)
+
+    pub finished_runs : RunsAs image old (shut made ran) t.count t.end
+    finished_runs = runs_to image old ran (shut made ran) t.count t.end (same_part ran (λ k. shuts) (shut made ran).locks (λ k l. (refl, refl)) (mapped_at shuts ran.locks) (λ n k b l e. refl)) old_runs
+
+    all_three : (k : ℕ) (o : Option Journal) → journal_at old k ≡ o
+        → option_map (closed_with made ran.guest.regs) (option_map (noted_when (has held k) (words k)) (option_map (opening k) o))
+        ≡ option_map (entered (has held k) (entry_of image k (whole old) made)) o
+    all_three k None is = refl
+    all_three k (Some j) is =
+        ap Some (elim (has held k) as (λ b. closed_with made ran.guest.regs (noted_when b (words k) (when_in b (opened_at (unowned (mutex_at old k)) old.guest.regs old.guest.fuel) j)) ≡ entered b (entry_of image k (whole old) made) j) [
+          | true ↦ ap (λ x. with_entry x j) (sym (entry_is k))
+          | false ↦ not_closed made ran.guest.regs j (may.ready k j is)
+        ])
+
+    pub finished_journals : Journals image old (shut made ran) made
+    finished_journals = record {
+      held = begins.is;
+      entries = λ k.
+          journals_changed (λ n. shuts) (λ n. closed_with made ran.guest.regs) ran (shut made ran) (mapped_at shuts ran.locks) (λ n l e. refl) k
+          ∙ ap (option_map (closed_with made ran.guest.regs)) (did.journals k ∙ ap (option_map (noted_when (has held k) (words k))) (begun_journals k))
+          ∙ all_three k (journal_at old k) refl;
     }
-
-    module _ (after : List (Option LockView)) (shuts : Changed (closed_in (has held) made ran.guest.regs) ran.locks after) where
-      abbrev pub finished : Context
-      finished = with_locks ran after
-
-      is_broken : (k : ℕ) (l : LockView) → lock_in ran.locks k ≡ Some l → has held k ≡ true → ends_thread t.end ≡ true → l.broken ≡ true
-      is_broken k l found h ends =
-          sym (ap (λ (m : Mutex). m.broken) (lock_is k l found h)) ∙ block_broken image (whole old) alone.0 old.thread t.count t.end alone.1 k (sym (begins.is k) ∙ h) ends
-
-      same_ended : (n k : ℕ) (b : Bool) (l : LockView) → lock_in ran.locks k ≡ Some l → mutex_of n b (closed_in (has held) made ran.guest.regs k l) ≡ mutex_of n b l
-      same_ended n k b l found = (elim (has held k) as (λ v. has held k ≡ v → mutex_of n b (when_in v (λ m. with_end t.end (with_journal (closed_with made ran.guest.regs) m)) l) ≡ mutex_of n b l) [
-        | true ↦ λ h. (let e = ended_broken t.end l.broken (is_broken k l found h) in λ i. record { bytes = l.bytes; broken = e i; sections = l.sections; owner = if b then Some n else None })
-        | false ↦ λ h. refl
-      ]) refl
-
-      pub finished_runs : RunsAs image old finished t.count t.end
-      finished_runs = runs_to image old ran finished t.count t.end (same_part ran (closed_in (has held) made ran.guest.regs) after
-          (λ k l. identifies_when (has held k) (λ m. with_end t.end (with_journal (closed_with made ran.guest.regs) m)) l refl refl) shuts same_ended) old_runs
-
-      all_three : (k : ℕ) (o : Option Journal)
-          → option_map (when_in (has held k) (closed_with made ran.guest.regs)) (option_map (noted_when (has held k) (words k)) (option_map (opening k) o))
-          ≡ option_map (entered (has held k) (entry_of image k (whole old) made)) o
-      all_three k None = refl
-      all_three k (Some j) =
-          ap Some (elim (has held k) as (λ b. when_in b (closed_with made ran.guest.regs) (noted_when b (words k) (when_in b (opened_at (unowned (mutex_at old k)) old.guest.regs old.guest.fuel) j)) ≡ entered b (entry_of image k (whole old) made) j) [
-            | true ↦ ap (λ x. with_entry x j) (sym (entry_is k))
-            | false ↦ refl
-          ])
-
-      pub finished_journals : Journals image old finished made
-      finished_journals = record {
-        held = begins.is;
-        entries = λ k.
-            journals_changed (closed_in (has held) made ran.guest.regs) (λ j. when_in (has held j) (closed_with made ran.guest.regs)) ran finished shuts
-            (λ j l e. journal_when (has held j) (closed_with made ran.guest.regs) (λ m. with_end t.end (with_journal (closed_with made ran.guest.regs) m)) l refl) k
-            ∙ ap (option_map (when_in (has held k) (closed_with made ran.guest.regs))) (did.journals k ∙ ap (option_map (noted_when (has held k) (words k))) (begun_journals k))
-            ∙ all_three k (journal_at old k);
-      }
-
--- a block that was put behind a log stands there
-pub stands_last : (log : List Block) (b at : Block) (n : ℕ) (now : List Block) → n ≡ length log → now ≡ log ++ b ∷ [] → at ≡ get_or now n at → at ≡ b
-stands_last log b at n now count is found = found ∙ ap (λ bs. get_or bs n at) is ∙ get_or_at log b [] at n (sym count)

@@ -1,38 +1,26 @@
 -- The registers behind the last entry of each lock that a thread holds, with which the thread goes on.
 use Rattle.std.proofs.Common.{◌≡◌, ℕ, ◌-◌, ◌≤◌, Bool, true, false, ◌||◌, ◌==◌, List, [], ◌∷◌, ◌++◌, length, length-append, refl, sym, ap, subst, ◌∙◌, arith, inl, inr, Option, Some, None, IfSome, if◌then◌else◌}
-use Rattle.tc_context.proofs.Vocabulary.{option_map, has, Shown, next_lock, LockView, EndedAt, finish_in, last_finish, lock_of, opened_at, sealed_as, sealed_entry, sealed_list, with_journal, Context, AreEnded, lock_in, EachHeld, HoldsAt, IsReady, MayGoOn, IsPlaced, SameLocks, Changed, at_place, opened_in, sealed_in, when_in, thread_in, journal_in, AreReady}
-use Rattle.std.proofs.lemmas.Bool.Decides.{eqb_tells}
-use Rattle.tc_isa.specs.Registers.{Registers}
-use Rattle.tc_turn.specs.Replay.{Entry}
-use Rattle.tc_turn.specs.Turn.{plus_lock}
-use Rattle.tc_turn.proofs.Turns.{next_free, next_known}
-use Rattle.tc_mutex_spec.specs.Blocks.{locks_of_block}
-use Rattle.tc_mutex_spec.proofs.OptionLaws.{map_some, option_map-id}
-use Rattle.tc_segment.proofs.Keeping.{last_at}
-use Rattle.tc_context.proofs.LockList.{when_field, with_locks}
+use Rattle.tc_context.proofs.Vocabulary.{option_map, has, Shown, next_lock, LockView, EndedAt, finish_in, last_finish, lock_of, opened_at, sealed_as, sealed_entry, sealed_list, with_journal, Context, AreEnded, lock_in, EachHeld, HoldsAt, IsReady, MayGoOn, IsPlaced, SameLocks, Changed, at_place, opened_in, sealed_in, when_in, thread_in, journal_in, AreReady, eqb_tells, Entry, map_some, option_map-id, Registers, plus_lock, next_free, next_known, locks_of_block, eq_self}
+use Rattle.tc_segment.proofs.Sealing.{sealed_last}
+use Rattle.tc_context.proofs.LockList.{with_locks}
 use Rattle.tc_context.proofs.Staging.{both_ways, lock_was}
-use Rattle.tc_lemmas.proofs.Tests.{eq_self}
 
 abbrev finish_of : LockView → Option Registers
 finish_of l = last_finish l.journal.sealed l.journal.closed
 
 -- ---- the locks that a block opens
 
-held_in : (held : ℕ → Bool) (o : Option ℕ) (k : ℕ) → held k ≡ true → locks_of_block held o k ≡ true
-held_in held None k h = h
-held_in held (Some n) k h = elim (k == n) as (λ b. (b || held k) ≡ true) [ true ↦ refl | false ↦ h ]
-
 -- those that the thread holds may go on
-pub held_ready : (image : Shown) (p : Context) (held : ℕ) (regs : Registers) → held ≡ p.guest.held → regs ≡ p.guest.regs → AreReady image p → AreEnded p → EachHeld (has held) (MayGoOn regs) p.locks
+pub held_ready : (image : Shown) (p : Context) (held : ℕ) (regs : Registers) → held ≡ p.guest.held → regs ≡ p.guest.regs → AreReady p → AreEnded p → EachHeld (has held) (MayGoOn regs) p.locks
 held_ready image p held regs is at ready ended k l found h =
     let mine : has p.guest.held k ≡ true = ap (λ n. has n k) (sym is) ∙ h in
     record {
-      ready = ready k l.journal (ap (option_map journal_in) found) (held_in (has p.guest.held) (next_lock image (thread_in p)) k mine);
+      ready = ready k l.journal (ap (option_map journal_in) found);
       ended = subst (λ r. EndedAt r l.journal) (sym at) (ended k l found mine);
     }
 
 -- and that which its first turn takes is another one, which is ready
-pub taken_ready : (image : Shown) (p : Context) (held : ℕ) (o : Option ℕ) → length image.guards ≤ 32 → o ≡ next_lock image (thread_in p) → held ≡ p.guest.held → AreReady image p
+pub taken_ready : (image : Shown) (p : Context) (held : ℕ) (o : Option ℕ) → length image.guards ≤ 32 → o ≡ next_lock image (thread_in p) → held ≡ p.guest.held → AreReady p
     → IfSome o (λ lock. (has held lock ≡ false) × HoldsAt lock (λ l. IsReady l.journal) p.locks)
 taken_ready image p held o few next is ready = subst (λ x. IfSome x (λ lock. (has held lock ≡ false) × HoldsAt lock (λ l. IsReady l.journal) p.locks)) (sym next) (by (next_lock image (thread_in p)) refl)
   where
@@ -42,7 +30,7 @@ taken_ready image p held o few next is ready = subst (λ x. IfSome x (λ lock. (
       ap (λ n. has n k) is ∙ next_free image (thread_in p) k e,
       record {
         place = (let known = next_known image (thread_in p) k e in omega (arith, known, few));
-        lock = λ l found. ready k l.journal (ap (option_map journal_in) found) (ap (λ n. locks_of_block (has p.guest.held) n k) e ∙ ap (λ b. b || has p.guest.held k) (eq_self k));
+        lock = λ l found. ready k l.journal (ap (option_map journal_in) found);
       },
     )
 
@@ -82,14 +70,8 @@ ended_placed p locks n o placed free ended k l found h = elim (eqb_tells k n) [
   | inr e ↦ ended k l (sym (placed k ∙ ap (λ b. if b then o else lock_in p.locks k) e.0) ∙ found) h
 ]
 
-sealed_last : (stamp worker : ℕ) (sealed : List Entry) (closed : Option Entry) → last_finish (sealed_list stamp worker sealed closed) None ≡ last_finish sealed closed
-sealed_last stamp worker sealed None = refl
-sealed_last stamp worker sealed (Some e) =
-    let x = sealed_entry stamp worker e in
-    ap (option_map finish_in) (last_at sealed x (length (sealed ++ x ∷ []) - 1) (omega (arith, length-append sealed (x ∷ []))))
-
 -- the seal
-pub ended_sealed : (held : ℕ → Bool) (stamp worker : ℕ) (p : Context) (locks : List (Option LockView)) → Changed (sealed_in held stamp worker) p.locks locks → AreEnded p → AreEnded (with_locks p locks)
-ended_sealed held stamp worker p locks changed ended k l found h =
-    let x = map_some (sealed_in held stamp worker k) (lock_in p.locks k) l (sym (changed k) ∙ found) in
-    ap finish_of x.2 ∙ when_field finish_of (held k) (with_journal (sealed_as stamp worker)) x.0 (sealed_last stamp worker x.0.journal.sealed x.0.journal.closed) ∙ ended k x.0 x.1 h
+pub ended_sealed : (stamp worker : ℕ) (p : Context) (locks : List (Option LockView)) → Changed (λ k. with_journal (sealed_as stamp worker)) p.locks locks → AreEnded p → AreEnded (with_locks p locks)
+ended_sealed stamp worker p locks changed ended k l found h =
+    let x = map_some (with_journal (sealed_as stamp worker)) (lock_in p.locks k) l (sym (changed k) ∙ found) in
+    ap finish_of x.2 ∙ sealed_last stamp worker x.0.journal.sealed x.0.journal.closed ∙ ended k x.0 x.1 h

@@ -1,11 +1,6 @@
 -- A package's lock states after a change of each of them.
-use Rattle.std.proofs.Common.{◌≡◌, ℕ, arith, get_or, set, ◌<◌, Bool, true, false, not, ◌==◌, ◌&&◌, List, length, refl, sym, ap, ◌∙◌, inl, inr, Option, Some, None, slice_get, if◌then◌else◌, ext_get_or}
-use Rattle.tc_context.proofs.Vocabulary.{option_map, LockView, Context, slot_of, lock_in, when_in, Changed, EachHeld, HoldsAt, at_place}
-use Rattle.std.proofs.lemmas.Bool.Decides.{eqb_tells}
-use Rattle.tc_mutex_spec.proofs.ListLaws.{get-set}
-use Rattle.tc_mutex_spec.proofs.OptionLaws.{option_map-id}
-use Rattle.std.proofs.lemmas.Option.{slice_get-get_or}
-use Rattle.std.proofs.lemmas.Bool.{and_parts}
+use Rattle.std.proofs.Common.{◌≡◌, ℕ, arith, get_or, set, ◌<◌, Bool, true, false, not, ◌==◌, ◌&&◌, List, map, length, refl, sym, ap, ◌∙◌, inl, inr, Option, Some, None, slice_get, if◌then◌else◌, ext_get_or}
+use Rattle.tc_context.proofs.Vocabulary.{option_map, LockView, Context, slot_of, lock_in, when_in, Changed, EachHeld, HoldsAt, at_place, eqb_tells, option_map-id, and_parts, slice_get-get_or, slice_get-map, get-set}
 
 -- what a change leaves, it leaves where it is made in some cases alone
 pub when_field : {X Y : Type 0} (g : X → Y) (b : Bool) (f : X → X) (x : X) → g (f x) ≡ g x → g (when_in b f x) ≡ g x
@@ -16,6 +11,14 @@ when_field g false f x e = refl
 pub locks_ext : (xs ys : List (Option LockView)) → length xs ≡ length ys → ((k : ℕ) → lock_in xs k ≡ lock_in ys k) → xs ≡ ys
 locks_ext xs ys e same =
     ext_get_or None xs ys e (λ k lt. sym (ap slot_of (slice_get-get_or xs k None lt)) ∙ same k ∙ ap slot_of (slice_get-get_or ys k None (omega (arith, e, lt))))
+
+slot_map : (g : LockView → LockView) (o : Option (Option LockView)) → slot_of (option_map (option_map g) o) ≡ option_map g (slot_of o)
+slot_map g None = refl
+slot_map g (Some o) = refl
+
+-- each lock is changed
+pub mapped_at : (g : LockView → LockView) (locks : List (Option LockView)) (k : ℕ) → lock_in (map (option_map g) locks) k ≡ option_map g (lock_in locks k)
+mapped_at g locks k = ap slot_of (slice_get-map (option_map g) locks k) ∙ slot_map g (slice_get locks k)
 
 -- of no lock, nothing is changed
 pub unchanged : (held : ℕ → Bool) (f : ℕ → LockView → LockView) (locks : List (Option LockView)) → ((k : ℕ) → held k ≡ false) → Changed (λ k l. when_in (held k) (f k) l) locks locks

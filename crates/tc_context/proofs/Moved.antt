@@ -1,28 +1,12 @@
 -- One turn of a package: what its thread and its locks are after it, and the words that its journals note.
 use Rattle.std.proofs.Common.{◌≡◌, ℕ, ◌≤◌, Bool, true, false, not, ◌||◌, ◌&&◌, ◌==◌, List, length, refl, sym, ap, subst, ◌∙◌, arith, [], ◌∷◌, ◌++◌, Option, Some, None, is_some, if◌then◌else◌, IfSome}
-use Rattle.tc_context.proofs.Vocabulary.{option_map, has, Shown, guard_at, Thread, act_with, thread_after, mutex_after, guard_with, given_up, when, taken, released, Mutex, next_lock, answer_to, LockView, Journal, guard_of, with_store, with_section, with_break, with_journal, noted, lock_in, mutex_of, mutex_or, IsLockOf}
-use Rattle.tc_context.proofs.Vocabulary.{AreOf, when_in, stored_in, turned, TurnReady, StoreReady, TurnFits, StoreFits, Changed, noted_in, Context, mutex_at, journal_in, journal_at, Keeps, thread_in, set_of, act_in, noted_when, IsTurn, AreOpen, DidTurn}
-use Rattle.tc_elf.specs.Places.{in_guard}
-use Rattle.tc_elf.specs.declared.image.Region.{Region}
-use Rattle.tc_exec.specs.Told.{IsAct, IsPut}
+use Rattle.tc_context.proofs.Vocabulary.{option_map, has, Shown, guard_at, Thread, act_with, thread_after, mutex_after, guard_with, given_up, when, taken, released, Mutex, next_lock, answer_to, LockView, Journal, guard_of, with_store, with_section, with_break, with_journal, noted, lock_in, mutex_of, mutex_or, IsLockOf, takes_word, word_of, words_now, in_guard, Region, done_of, wants_of, IsAct, IsPut, Put, Want, Covers, next_act, act_some, act_takes, next_known, Act, Done, DoneFits, put_number}
+use Rattle.tc_context.proofs.Vocabulary.{AreOf, when_in, stored_in, turned, TurnReady, StoreReady, TurnFits, StoreFits, Changed, noted_in, Context, mutex_at, journal_in, journal_at, Keeps, thread_in, set_of, act_in, noted_when, IsTurn, AreOpen, DidTurn, takes_word, word_of, words_now, in_guard, Region, done_of, wants_of, IsAct, IsPut, Put, Want, Covers, next_act, act_some, act_takes, next_known, Act, Done, DoneFits, put_number}
 use Rattle.tc_exec.proofs.Cases.{act_told}
 use Rattle.tc_exec.proofs.Laws.{put_is_held}
-use Rattle.tc_exec.specs.declared.outcome.Act.{Act}
-use Rattle.tc_exec.specs.InPlace.{done_of}
-use Rattle.tc_exec.specs.declared.outcome.Done.{Done}
 use Rattle.tc_exec.specs.declared.outcome.Act.TheVariants.{Next, Called, Faulted}
 use Rattle.tc_exec.specs.declared.outcome.Call.TheVariants.{Lock, Unlock, Exit}
-use Rattle.tc_exec.specs.declared.outcome.Put.{Put}
-use Rattle.tc_turn.specs.InPlace.{DoneFits}
-use Rattle.tc_turn.specs.Memory.{put_number}
-use Rattle.tc_turn.specs.Reads.{Covers}
-use Rattle.tc_turn.specs.Turn.{next_act}
-use Rattle.tc_turn.proofs.Turns.{act_some, act_takes, next_known}
-use Rattle.tc_turn.proofs.Words.{words_now}
 pub use Rattle.tc_mutex_spec.proofs.OptionLaws.{map_some, some_map, option_map-twice}
-use Rattle.tc_exec.specs.Step.{wants_of}
-use Rattle.tc_exec.specs.declared.outcome.Want.{Want}
-use Rattle.tc_turn.specs.Replay.{takes_word, word_of}
 use Rattle.tc_exec.specs.declared.outcome.Want.TheVariants.{Nothing}
 use Rattle.std.proofs.Math.Bool.{and-false}
 use Rattle.tc_context.proofs.LockList.{when_field, unchanged}

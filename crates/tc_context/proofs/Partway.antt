@@ -1,38 +1,16 @@
 -- A package in the middle of a block.
 use Rattle.std.proofs.Common.{◌≡◌, ℕ, ◌+◌, ◌-◌, ◌<◌, ◌≤◌, Bool, true, false, ◌&&◌, ◌++◌, length, refl, sym, ap, subst, ◌∙◌, arith, add-one, zero, suc, Option, Some, None, nat_lt, is_some, if◌then◌else◌}
-use Rattle.tc_context.proofs.Vocabulary.{option_map, has, MAX_TURNS, Shown, Thread, is_running, next_lock, outcome_of, LockView, Journal, lock_in, mutex_or, Context, thread_in, mutex_at, whole, set_of, journal_at, Keeps, CanGo, block_locks, RunsAs, act_in, IsTurn, noted_when, words_of, AreOpen, HasRoom, AreNoted, GoesOn, MayTurn}
-use Rattle.std.proofs.lemmas.Bool.Decides.{nat_tests}
-use Rattle.tc_exec.specs.InPlace.{done_of}
-use Rattle.tc_journal.specs.Rule.{end_rule}
-use Rattle.tc_journal.specs.declared.block.End.{End}
-use Rattle.tc_turn.specs.Reads.{Covers}
-use Rattle.tc_turn.specs.Replay.{word_of}
-use Rattle.tc_turn.proofs.Turns.{next_free, covers_on, held_on, went_on, goes_on}
-use Rattle.tc_mutex_spec.specs.Machine.{State, is_free, is_open, can_turn, after}
-use Rattle.tc_mutex_spec.specs.Locality.{Agree}
-use Rattle.tc_mutex_spec.specs.Blocks.{reach, Runs}
-use Rattle.tc_mutex_spec.proofs.Local.{after_thread, after_mutex, agree_trans, agree_at, covers_at}
-use Rattle.tc_mutex_spec.proofs.BlocksAlike.{covers_block, runs_same, runs_apart}
-use Rattle.tc_context.specs.Block.{DidTurns}
+use Rattle.tc_context.proofs.Vocabulary.{option_map, has, MAX_TURNS, Shown, Thread, is_running, next_lock, outcome_of, LockView, Journal, lock_in, mutex_or, Context, thread_in, mutex_at, whole, set_of, journal_at, Keeps, CanGo, block_locks, RunsAs, act_in, IsTurn, noted_when, words_of, AreOpen, HasRoom, AreNoted, GoesOn, MayTurn, nat_tests, word_of, word_short, words_short, word_same, map_some, option_map-id, option_map-twice, done_of, Covers, MayRun, next_free, covers_on, held_on, went_on, goes_on, State, is_free, is_open, can_turn, after, reach, Runs, words_next, end_done, next_small, slept_by, slept_at, slept_in, End, Agree, after_thread, after_mutex, agree_trans, agree_at, covers_at, covers_block, runs_same, runs_apart, DidTurns, Act, Done, outcome_done, end_rule}
 use Rattle.tc_context.specs.Middle.{DidTurn}
-use Rattle.tc_context.specs.Ran.{slept_by, slept_at, slept_in}
-use Rattle.tc_exec.specs.declared.outcome.Done.{Done}
-use Rattle.tc_mutex_spec.proofs.Going.{end_done, next_small}
-use Rattle.tc_turn.specs.InPlace.{outcome_done}
 use Rattle.tc_turn.proofs.InPlace.{same_outcome}
 pub use Rattle.tc_mutex_spec.proofs.Going.{block_inside, no_cut}
 use Rattle.tc_mutex_spec.proofs.Within.{AreWithin, within_start, within_more, within_ends, IsTold, turn_told}
-use Rattle.tc_mutex_spec.proofs.Replaying.{words_next}
-use Rattle.tc_mutex_spec.proofs.OptionLaws.{map_some, option_map-id, option_map-twice}
 use Rattle.tc_context.proofs.Moved.{when_nil, when_more, when_open}
-use Rattle.tc_turn.proofs.Words.{word_short, words_short, word_same}
-use Rattle.tc_exec.specs.declared.outcome.Act.{Act}
 use Rattle.tc_exec.specs.declared.outcome.Act.TheVariants.{Next, Called}
 use Rattle.tc_exec.specs.declared.outcome.Call.TheVariants.{Lock, Sleep}
 use Rattle.tc_journal.specs.declared.rule.Outcome.{Outcome}
 use Rattle.tc_journal.specs.declared.rule.Outcome.TheVariants as outcome
 use Rattle.tc_exec.specs.declared.outcome.Done.TheVariants as done
-use Rattle.tc_context.specs.Run.{MayRun}
 
 pub record Partway (image : Shown) (block : ℕ → Bool) (old now : Context) (n : ℕ) : Type 0 where
   pub short : n < MAX_TURNS

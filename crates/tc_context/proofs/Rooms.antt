@@ -1,13 +1,7 @@
 -- The room that a package's locks have.
 use Rattle.std.proofs.Common.{◌≡◌, ℕ, ◌-◌, ◌≤◌, Bool, true, false, not, ◌==◌, ◌&&◌, List, length, refl, sym, ap, subst, ◌∙◌, inl, inr, arith, Option, Some, if◌then◌else◌}
-use Rattle.tc_context.proofs.Vocabulary.{option_map, MAX_TURNS, Shown, Block, Journal, LockView, Context, Changed, EachLock, Gives, HasRoomFor, IsPlaced, IsWithin, SameLocks, lock_in, sealed_as, sealed_in, with_journal, Journals, entered, entry_of, journal_at, journal_in, whole}
-use Rattle.std.proofs.lemmas.Bool.Decides.{eqb_tells}
-use Rattle.tc_turn.specs.Replay.{Entry}
-use Rattle.tc_turn.proofs.Words.{words_short}
-use Rattle.tc_mutex_spec.proofs.OptionLaws.{map_some}
-use Rattle.tc_isa.specs.Sets.{has}
-use Rattle.tc_context.specs.declared.room.Room.{Room}
-use Rattle.tc_context.proofs.LockList.{when_field}
+use Rattle.tc_context.proofs.Vocabulary.{option_map, MAX_TURNS, Shown, Block, Journal, LockView, Context, Changed, EachLock, Gives, HasRoomFor, IsPlaced, IsWithin, SameLocks, lock_in, Registers, closed_all, closed_with, sealed_in, sealed_with, with_journal, Journals, entered, entry_of, journal_at, journal_in, whole, eqb_tells, Entry, words_short, map_some, has, Room}
+use Rattle.tc_context.proofs.LockList.{mapped_at, when_field}
 
 -- each lock of a set has room where a walk over the set has been, and nothing but rooms is changed
 pub record Reserved (held left : ℕ → Bool) (old now : List (Option LockView)) : Type 0 where
@@ -56,13 +50,19 @@ gives_placed n o old new room most placed within here each k l e = elim (eqb_tel
 ]
 
 -- a seal takes no room
-pub gives_sealed : (held : ℕ → Bool) (stamp worker : ℕ) (old new : List (Option LockView)) (room : Room) → Changed (sealed_in held stamp worker) old new → EachGives room old → EachGives room new
-gives_sealed held stamp worker old new room changed each k l e =
-    let x = map_some (sealed_in held stamp worker k) (lock_in old k) l (sym (changed k) ∙ e) in
+pub gives_sealed : (held : ℕ → Bool) (b : Block) (regs : Registers) (old new : List (Option LockView)) (room : Room) → Changed (sealed_in held b regs) old new → EachGives room old → EachGives room new
+gives_sealed held b regs old new room changed each k l e =
+    let x = map_some (sealed_in held b regs k) (lock_in old k) l (sym (changed k) ∙ e) in
     let was = each k x.0 x.1 in
-    let entries = when_field (λ (y : LockView). y.journal.entry_room) (held k) (with_journal (sealed_as stamp worker)) x.0 refl in
-    let words = when_field (λ (y : LockView). y.journal.word_room) (held k) (with_journal (sealed_as stamp worker)) x.0 refl in
+    let entries = when_field (λ (y : LockView). y.journal.entry_room) (held k) (with_journal (sealed_with b regs)) x.0 refl in
+    let words = when_field (λ (y : LockView). y.journal.word_room) (held k) (with_journal (sealed_with b regs)) x.0 refl in
     subst (Gives room) (sym x.2) (record { entries = subst (λ n. room.entries ≤ n) (sym entries) was.entries; words = subst (λ n. room.words ≤ n) (sym words) was.words })
+
+-- nor does what is seen as closed
+pub gives_open : (b : Block) (regs : Registers) (locks : List (Option LockView)) (room : Room) → EachGives room (closed_all b regs locks) → EachGives room locks
+gives_open b regs locks room each k l e =
+    let g = each k (with_journal (closed_with b regs) l) (mapped_at (with_journal (closed_with b regs)) locks k ∙ ap (option_map (with_journal (closed_with b regs))) e) in
+    record { entries = g.entries; words = g.words }
 
 -- the room behind a block of so many turns
 abbrev pub behind : ℕ → Room → Room

@@ -1,32 +1,20 @@
 -- What running a block makes of a package, and sealing it.
 use Rattle.std.proofs.Common.{◌≡◌, ℕ, ◌-◌, ◌<◌, ◌≤◌, Bool, true, false, not, ◌||◌, ◌&&◌, ◌==◌, List, [], ◌∷◌, ◌++◌, map, length, refl, sym, ap, subst, ◌∙◌, inl, inr, set, arith, Option, Some, None, is_some, if◌then◌else◌, IfSome, slice_get, length-set}
-use Rattle.tc_context.proofs.Vocabulary.{option_map, has, Shown, is_section, begins, is_lock, takes_of, last_of, may_go_on, ends_section, passes_to, Block, Thread, is_running, next_lock, LockView, IsStrict, Journal, last_finish, block_in, blocks_of, with_journal, sealed_block, sealed_entry, sealed_list, sealed_as}
-use Rattle.tc_context.proofs.Vocabulary.{Context, lock_in, AreOf, slot_of, when_in, Changed, sealed_all, sealed_in, EachHeld, CanSeal, thread_in, whole, set_of, AreEnded, journal_in, journal_at, CanGo, RunsAs, entry_of, with_entry, entered, Journals, IsReady, AreReady, PackageView, granted_lock, kind_of, waiting_in}
-use Rattle.tc_context.proofs.Vocabulary.{IsReserved, IsPending, IsStored, IsAfter, IsLeft, IsGranted, MayTake, IsSoundPackage, Allows, fits_in, fits_granted, fits_of, WantIsGranted, IsIdle, IsAt, EndsWith, sealed_log, with_seal}
-use Rattle.std.proofs.lemmas.Bool.Decides.{eqb_tells}
+use Rattle.tc_context.proofs.Vocabulary.{option_map, has, Shown, is_section, begins, is_lock, takes_of, last_of, may_go_on, ends_section, passes_to, Block, Thread, is_running, next_lock, LockView, IsStrict, Journal, last_finish, block_in, blocks_of, with_journal, sealed_block, sealed_entry, sealed_list, sealed_as, eqb_tells, Entry, map_some, some_map, some_of, next_free, State, locks_of_block, reach, Runs, Grant, record_takes, block_survives, block_gives, block_inside, in_block, DidRun, slept_at, not-false, map-append, length-map, slice_get-map, slice_get_within, eq_self}
+use Rattle.tc_context.proofs.Vocabulary.{Context, lock_in, AreOf, slot_of, when_in, Changed, sealed_all, sealed_in, EachHeld, CanSeal, thread_in, whole, set_of, AreEnded, journal_in, journal_at, CanGo, RunsAs, entry_of, with_entry, entered, Journals, IsReady, AreReady, PackageView, granted_lock, kind_of, waiting_in, eqb_tells, Entry, map_some, some_map, some_of, next_free, State, locks_of_block, reach, Runs, Grant, record_takes, block_survives, block_gives, block_inside, in_block, DidRun, slept_at, not-false, map-append, length-map, slice_get-map, slice_get_within, eq_self}
+use Rattle.tc_context.proofs.Vocabulary.{IsReserved, IsPending, IsStored, IsAfter, IsLeft, IsGranted, MayTake, IsSoundPackage, Allows, fits_in, fits_granted, fits_of, WantIsGranted, IsIdle, IsAt, EndsWith, sealed_log, with_seal, eqb_tells, Entry, map_some, some_map, some_of, next_free, State, locks_of_block, reach, Runs, Grant, record_takes, block_survives, block_gives, block_inside, in_block, DidRun, slept_at, not-false, map-append, length-map, slice_get-map, slice_get_within, eq_self}
 use Rattle.tc_journal.specs.Batch.{allows_of, passes_on, may_follow}
 use Rattle.tc_turn.specs.declared.status.Status.TheVariants.{Running}
-use Rattle.tc_turn.specs.Replay.{Entry}
-use Rattle.tc_turn.proofs.Turns.{next_free}
-use Rattle.tc_mutex_spec.specs.Machine.{State}
-use Rattle.tc_mutex_spec.specs.Blocks.{locks_of_block, reach, Runs}
-use Rattle.tc_context.specs.declared.package.Grant.{Grant}
 use Rattle.tc_journal.proofs.Batching.{last_more}
-use Rattle.tc_context.proofs.LockList.{when_field, locks_ext}
-use Rattle.tc_mutex_spec.proofs.OptionLaws.{map_some, some_map, some_of}
-use Rattle.tc_mutex_spec.proofs.Replaying.{record_takes}
-use Rattle.tc_mutex_spec.proofs.Going.{block_survives, block_gives, block_inside, in_block}
+use Rattle.tc_context.proofs.LockList.{mapped_at, when_field, locks_ext}
 use Rattle.tc_mutex_spec.proofs.Leaving.{block_runs, block_next, block_cut, block_releases, block_covered}
 use Rattle.tc_journal.specs.History.{IsBlock}
-use Rattle.tc_context.specs.Ran.{DidRun, slept_at}
 use Rattle.tc_context.proofs.Staging.{both_ways, left_few, rests_as, are_of, idle_at, closed_none, grant_of, goes_on}
 use Rattle.tc_mutex_spec.proofs.Few.{block_few}
 use Rattle.tc_context.proofs.Blocked.{record_is}
-use Rattle.std.proofs.lemmas.Bool.{not-false}
-use Rattle.std.proofs.lemmas.List.{map-append, length-map}
-use Rattle.std.proofs.lemmas.Option.{slice_get-map, slice_get_within}
 use Rattle.tc_journal.proofs.Lists.{get-set_same}
-use Rattle.tc_lemmas.proofs.Tests.{eq_self}
+use Rattle.tc_segment.proofs.Sealing.{closes_sealed}
+use Rattle.tc_context.proofs.Vocabulary.{EachLock, IsUnsealed, Opened, Registers, closed_all, closed_with, entry_from, sealed_with}
 
 -- what a package needs for a block, beside room
 pub record MayRun (image : Shown) (p : PackageView) : Type 0 where
@@ -63,8 +51,8 @@ module _ (image : Shown) (p : PackageView) (m : MayRun image p) where
   granted_as o g is e = subst (MayTake p.image p.context) (is ∙ e) m.sound.grant
 
   -- the locks of the block have rest and room
-  pub ready_from : IsReserved p → AreReady image p.context
-  ready_from reserved k j e h =
+  pub ready_from : IsReserved p → AreReady p.context
+  ready_from reserved k j e =
       let l = map_some journal_in (lock_in p.context.locks k) j e in
       let s = m.sound.stored k l.0 l.1 in
       subst IsReady (sym l.2) (record {
@@ -197,10 +185,10 @@ module _ (image : Shown) (p : PackageView) (m : MayRun image p) where
           at = (let same = sealed_was k l x.0 x.2 in pending_at k l x.0 x.1 same.0 same.2);
         }
 
-    last_is : last_of log ≡ Some b
+    pub last_is : last_of log ≡ Some b
     last_is = ap last_of logged ∙ last_more p.log b
 
-    sound_ran : IsSoundPackage ran
+    pub sound_ran : IsSoundPackage ran
     sound_ran = record {
       few = m.sound.few;
       places = (places, m.sound.places.1);
@@ -221,19 +209,6 @@ module _ (image : Shown) (p : PackageView) (m : MayRun image p) where
         let entry : l.journal ≡ with_entry e x.0.journal = x.2 ∙ ap (λ v. entered v e x.0.journal) (held_locks k h) in
         ap (λ (j : Journal). last_finish j.sealed j.closed) entry ∙ ap (λ n. Some ((reach image (whole p.context) n b.turns).threads n).regs) thread ∙ sym (ap (λ (d : Thread). Some d.regs) thread_is)
 
-    -- the pending block is shown as the last one of the log
-    abbrev shown : PackageView
-    shown = record ran { pending = last_of log }
-
-    ran_shown : ran ≡ shown
-    ran_shown = λ i. record ran { pending = sym last_is i }
-
-    pub pending_shown : is_some (last_of log) ≡ true
-    pending_shown = ap is_some last_is
-
-    pub ran_sound : IsSoundPackage shown
-    ran_sound = subst IsSoundPackage ran_shown sound_ran
-
     -- a package that fits a worker runs a block that the batch rule allows with this worker
     fits_allows : (worker : ℕ) → fits_of p worker ≡ true → Allows new b worker
     unfolding allows_of
@@ -245,8 +220,8 @@ module _ (image : Shown) (p : PackageView) (m : MayRun image p) where
         ∙ (λ i. fits_in (sym x.1 i) k g.0.kind worker) ∙ ap (λ n. fits_in (lock_in p.context.locks n) n g.0.kind worker) (sym g.2)
         ∙ ap (λ o. fits_granted p.context o worker) (sym g.1) ∙ fits
 
-    pub did_run : (old : PackageView) → p ≡ old → b.pc ≡ (thread_in p.context).regs.pc → IsBlock b → slept ≡ slept_at image (whole p.context) p.context.thread (b.turns - 1) → DidRun image old shown
-    did_run old same at bounds sleeps = subst (λ v. DidRun image v shown) same (subst (DidRun image p) ran_shown (record {
+    pub did_run : (old : PackageView) → p ≡ old → b.pc ≡ (thread_in p.context).regs.pc → IsBlock b → slept ≡ slept_at image (whole p.context) p.context.thread (b.turns - 1) → DidRun image old ran
+    did_run old same at bounds sleeps = subst (λ v. DidRun image v ran) same (record {
       block = b;
       pending = refl;
       bounds = bounds;
@@ -269,7 +244,7 @@ module _ (image : Shown) (p : PackageView) (m : MayRun image p) where
       numbers = refl;
       turns = refl;
       room = refl;
-    }))
+    })
 
 -- ---- the seal
 
@@ -291,9 +266,6 @@ pending_last p sound some =
 entry_was : (p : PackageView) (b : Block) (k : ℕ) (l : LockView) → IsStored p k l → p.pending ≡ Some b → has b.held k ≡ true → (e : Entry) × (l.journal.closed ≡ Some e) × (b ≡ e.block)
 entry_was p b k l s pending h = map_some block_in l.journal.closed b (s.closed ∙ ap (λ o. waiting_in o k) pending ∙ ap (λ v. if v then Some b else None) h)
 
-closed_block : (p : PackageView) (b : Block) (k : ℕ) (l : LockView) → IsStored p k l → p.pending ≡ Some b → has b.held k ≡ true → (e : Entry) → l.journal.closed ≡ Some e → e.block ≡ b
-closed_block p b k l s pending h e is = (let w = entry_was p b k l s pending h in let same : Some e ≡ Some w.0 = sym is ∙ w.1 in let f : e ≡ w.0 = cc in ap block_in f ∙ sym w.2)
-
 -- the batch rule lets the pending block follow, where it allows the section that the block began
 pub block_follows : (p : PackageView) (b : Block) (stamp worker : ℕ) → IsSoundPackage p → p.pending ≡ Some b → Allows p.context b worker → (k : ℕ) (l : LockView) → lock_in p.context.locks k ≡ Some l → has b.held k ≡ true
     → may_follow k l.journal.limit (blocks_of l) (sealed_block stamp worker b) ≡ true
@@ -309,23 +281,27 @@ unfolding passes_on
 block_passes p b stamp worker sound pending k l found strict h = (subst (λ x. IsAt x p k l) pending (sound.stored k l found).at).passes strict h
 
 -- so the entry of each of its locks may be sealed
-pub may_seal : (p : PackageView) (b : Block) (stamp worker : ℕ) → IsSoundPackage p → p.pending ≡ Some b → Allows p.context b worker → EachHeld (has b.held) (CanSeal stamp worker) p.context.locks
-may_seal p b stamp worker sound pending allows k l found h =
-    let s = sound.stored k l found in
-    let is = closed_block p b k l s pending h in
-    let ran : IsPending b k l = subst (λ x. IsAt x p k l) pending s.at in
+pub may_seal : (p : PackageView) (b : Block) (stamp worker : ℕ) (regs : Registers) (locks : List (Option LockView)) → IsSoundPackage p → p.pending ≡ Some b → p.context.locks ≡ closed_all b regs locks → EachLock (IsUnsealed b regs) locks → Allows p.context b worker
+    → EachHeld (has b.held) (CanSeal (sealed_block stamp worker b) regs) locks
+may_seal p b stamp worker regs locks sound pending is unsealed allows k l found h =
+    let u = unsealed k l found in
+    let x : LockView = with_journal (closed_with b regs) l in
+    let seen : lock_in p.context.locks k ≡ Some x = ap (λ s. lock_in s k) is ∙ mapped_at (with_journal (closed_with b regs)) locks k ∙ ap (option_map (with_journal (closed_with b regs))) found in
+    let s = sound.stored k x seen in
     record {
-      closed = ap is_some (entry_was p b k l s pending h).1;
-      follows = λ e has_e. (λ i. may_follow (s.number i) l.journal.limit (blocks_of l) (sealed_block stamp worker (is e has_e i))) ∙ block_follows p b stamp worker sound pending allows k l found h;
-      passes = λ e has_e strict. (λ i. passes_on (s.number i) (blocks_of l) (is e has_e i)) ∙ ran.passes strict h;
+      opened = u.opened h;
+      ended = u.ended h;
+      closes = λ o e. closes_sealed stamp worker l b regs o (u.closes h o e);
+      follows = λ e has_e. (let c = entry_block (sealed_block stamp worker b) regs l.journal.opened e has_e in λ i. may_follow (s.number i) l.journal.limit (blocks_of l) (sealed_block stamp worker (c i))) ∙ block_follows p b stamp worker sound pending allows k x seen h;
+      passes = λ e has_e strict. (let c = entry_block (sealed_block stamp worker b) regs l.journal.opened e has_e in λ i. passes_on (s.number i) (blocks_of l) (c i)) ∙ block_passes p b stamp worker sound pending k x seen strict h;
     }
-
-slot_map : (g : LockView → LockView) (o : Option (Option LockView)) → slot_of (option_map (option_map g) o) ≡ option_map g (slot_of o)
-slot_map g None = refl
-slot_map g (Some o) = refl
+  where
+    entry_block : (c : Block) (regs : Registers) (o : Option Opened) (e : Entry) → option_map (entry_from c regs) o ≡ Some e → e.block ≡ c
+    entry_block c regs None e is = absurd (cc)
+    entry_block c regs (Some o) e is = (let same : entry_from c regs o ≡ e = cc in ap block_in (sym same))
 
 pub sealed_at : (stamp worker : ℕ) (locks : List (Option LockView)) (k : ℕ) → lock_in (sealed_all stamp worker locks) k ≡ option_map (with_journal (sealed_as stamp worker)) (lock_in locks k)
-sealed_at stamp worker locks k = (let g = with_journal (sealed_as stamp worker) in ap slot_of (slice_get-map (option_map g) locks k) ∙ slot_map g (slice_get locks k))
+sealed_at stamp worker locks = mapped_at (with_journal (sealed_as stamp worker)) locks
 
 pub seal_set : (stamp worker : ℕ) (p : PackageView) (k : ℕ) → set_of (with_seal stamp worker p).context k ≡ set_of p.context k
 seal_set stamp worker p k = ap is_some (sealed_at stamp worker p.context.locks k) ∙ some_map (with_journal (sealed_as stamp worker)) (lock_in p.context.locks k)
@@ -399,30 +375,32 @@ module _ (p : PackageView) (b : Block) (stamp worker : ℕ) (sound : IsSoundPack
     alone = λ h. absurd (cc);
   }
 
-not_sealed : (stamp worker : ℕ) (l : LockView) → l.journal.closed ≡ None → l ≡ with_journal (sealed_as stamp worker) l
-not_sealed stamp worker l none =
-    let s = ap (sealed_list stamp worker l.journal.sealed) none in
-    λ i. record { number = l.number; bytes = l.bytes; broken = l.broken; sections = l.sections; journal = record { image = l.journal.image; limit = l.journal.limit; strict = l.journal.strict; sealed = sym s i; closed = none i; opened = l.journal.opened; entry_room = l.journal.entry_room; word_room = l.journal.word_room } }
+-- the locks of the pending block are closed and sealed at once, which is to seal what is seen as closed; in another one no entry is open
+module _ (b : Block) (stamp worker : ℕ) (regs : Registers) (old new : List (Option LockView)) (unsealed : EachLock (IsUnsealed b regs) old) (changed : Changed (sealed_in (has b.held) (sealed_block stamp worker b) regs) old new) where
+  once : (sealed : List Entry) (o : Option Opened) → sealed_list stamp worker sealed (option_map (entry_from (sealed_block stamp worker b) regs) o) ≡ sealed_list stamp worker sealed (option_map (entry_from b regs) o)
+  once sealed None = refl
+  once sealed (Some o) = refl
 
--- in a lock that isn't of the pending block nothing waits
-seal_all : (p : PackageView) (b : Block) (stamp worker : ℕ) (locks : List (Option LockView)) → IsSoundPackage p → p.pending ≡ Some b → length locks ≡ 32 → Changed (sealed_in (has b.held) stamp worker) p.context.locks locks → locks ≡ sealed_all stamp worker p.context.locks
-seal_all p b stamp worker locks sound pending places changed =
-    locks_ext locks (sealed_all stamp worker p.context.locks) (places ∙ sym sound.places.0 ∙ sym (length-map p.context.locks (option_map (with_journal (sealed_as stamp worker)))))
-    (λ k. changed k ∙ each k (lock_in p.context.locks k) refl ∙ sym (sealed_at stamp worker p.context.locks k))
-  where
-    one : (k : ℕ) (l : LockView) → IsStored p k l → (v : Bool) → has b.held k ≡ v → when_in v (with_journal (sealed_as stamp worker)) l ≡ with_journal (sealed_as stamp worker) l
-    one k l s true h = refl
-    one k l s false h = not_sealed stamp worker l (closed_none l.journal.closed (s.closed ∙ ap (λ o. waiting_in o k) pending ∙ ap (λ v. if v then Some b else None) h))
+  one : (k : ℕ) (l : LockView) → IsUnsealed b regs k l → (v : Bool) → has b.held k ≡ v → when_in v (with_journal (sealed_with (sealed_block stamp worker b) regs)) l ≡ with_journal (sealed_as stamp worker) (with_journal (closed_with b regs) l)
+  one k l u true h = (let s = once l.journal.sealed l.journal.opened in λ i. record l { journal = record l.journal { sealed = s i; closed = None; opened = None } })
+  one k l u false out =
+      let none = u.others out in
+      let closed = u.closed in
+      let s = ap (λ o. sealed_list stamp worker l.journal.sealed (option_map (entry_from b regs) o)) none in
+      λ i. record l { journal = record l.journal { sealed = sym s i; closed = closed i; opened = none i } }
 
-    each : (k : ℕ) (o : Option LockView) → lock_in p.context.locks k ≡ o → option_map (sealed_in (has b.held) stamp worker k) o ≡ option_map (with_journal (sealed_as stamp worker)) o
-    each k None e = refl
-    each k (Some l) e = ap Some (one k l (sound.stored k l e) (has b.held k) refl)
+  each : (k : ℕ) (o : Option LockView) → lock_in old k ≡ o → option_map (sealed_in (has b.held) (sealed_block stamp worker b) regs k) o ≡ option_map (with_journal (sealed_as stamp worker)) (option_map (with_journal (closed_with b regs)) o)
+  each k None e = refl
+  each k (Some l) e = ap Some (one k l (unsealed k l e) (has b.held k) refl)
+
+  pub seal_each : Changed (λ k. with_journal (sealed_as stamp worker)) (closed_all b regs old) new
+  seal_each k = changed k ∙ each k (lock_in old k) refl ∙ ap (option_map (with_journal (sealed_as stamp worker))) (sym (mapped_at (with_journal (closed_with b regs)) old k))
 
 -- with its locks and its log sealed, the package is sealed
-pub seal_is : (p : PackageView) (l : IsLast p) (stamp worker held len room : ℕ) (log : List Block) (locks : List (Option LockView)) → IsSoundPackage p → held ≡ l.block.held → len ≡ length p.log → length locks ≡ 32
-    → Changed (sealed_in (has held) stamp worker) p.context.locks locks → log ≡ set p.log (len - 1) (sealed_block stamp worker l.block) → room ≡ p.log_room
+pub seal_is : (p : PackageView) (l : IsLast p) (stamp worker len room : ℕ) (log : List Block) (locks : List (Option LockView)) → IsSoundPackage p → len ≡ length p.log → length locks ≡ 32
+    → Changed (λ k. with_journal (sealed_as stamp worker)) p.context.locks locks → log ≡ set p.log (len - 1) (sealed_block stamp worker l.block) → room ≡ p.log_room
     → record p { context = record { thread = p.context.thread; guest = p.context.guest; locks = locks }; pending = None; log = log; log_room = room } ≡ with_seal stamp worker p
-seal_is p l stamp worker held len room log locks sound is count places changed logged roomy =
-    let same = seal_all p l.block stamp worker locks sound l.pending places (subst (λ n. Changed (sealed_in (has n) stamp worker) p.context.locks locks) is changed) in
+seal_is p l stamp worker len room log locks sound count places changed logged roomy =
+    let same = locks_ext locks (sealed_all stamp worker p.context.locks) (places ∙ sym sound.places.0 ∙ sym (length-map p.context.locks (option_map (with_journal (sealed_as stamp worker))))) (λ k. changed k ∙ sym (sealed_at stamp worker p.context.locks k)) in
     let sealed = logged ∙ ap (λ n. set p.log (n - 1) (sealed_block stamp worker l.block)) count ∙ ap (sealed_log stamp worker p.log) (sym l.pending) in
     λ i. record p { context = record { thread = p.context.thread; guest = p.context.guest; locks = same i }; pending = None; log = sealed i; log_room = roomy i }

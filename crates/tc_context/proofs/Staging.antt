@@ -1,26 +1,17 @@
 -- What a package keeps, through each of its calls.
 use Rattle.std.proofs.Common.{◌≡◌, ℕ, ◌<◌, ◌≤◌, Bool, true, false, not, ◌||◌, ◌&&◌, ◌==◌, List, map, filter, length, refl, sym, ap, subst, ◌∙◌, arith, inl, inr, Option, Some, None, IfSome, is_some, slice_index_or, set, if◌then◌else◌, length-set, get_or-set_same, get_or-set_other}
-use Rattle.tc_context.proofs.Vocabulary.{option_map, has, Shown, is_section, last_of, may_go_on, ends_section, passes_to, passes_on, Block, Thread, is_running, next_lock, LockView, IsAtRest, kept, block_in, blocks_of, Context, lock_in, AreOf, Changed, IsPlaced, SameLocks, thread_in, set_of, PackageView, granted_lock}
-use Rattle.tc_context.proofs.Vocabulary.{want_of, number_in, waiting_in, IsNumber, IsFresh, EndsSection, IsIdle, IsAt, IsStored, IsLeft, EndsWith, IsGranted, MayPassTo, MayTake, IsSoundPackage, IsWanted, LastIsSealed, IsWaiting, IsRoomier, with_grant, without_lock, guest_in, view_of, KeptPackage}
+use Rattle.tc_context.proofs.Vocabulary.{option_map, has, Shown, is_section, last_of, may_go_on, ends_section, passes_to, passes_on, Block, Thread, is_running, next_lock, LockView, IsAtRest, kept, block_in, blocks_of, Context, lock_in, AreOf, Changed, IsPlaced, SameLocks, thread_in, set_of, PackageView, granted_lock, eqb_tells, Entry, locks_of, next_free, next_known, next_by_own, Grant, running_is, eq_self, End, Kind}
+use Rattle.tc_context.proofs.Vocabulary.{want_of, number_in, waiting_in, IsNumber, IsFresh, EndsSection, IsIdle, IsAt, IsStored, IsLeft, EndsWith, IsGranted, MayPassTo, MayTake, IsSoundPackage, IsWanted, LastIsSealed, IsWaiting, IsRoomier, with_grant, without_lock, guest_in, locks_with, pending_in, context_with, view_of, view_with, KeptPackage, AreEnded, EachLock, HasRoomFor, MAX_TURNS, IsUnsealed, Closes, Registers, closed_all, closed_with, shut, with_journal, length-map, eqb_tells, Entry, locks_of, next_free, next_known, next_by_own, Grant, running_is, eq_self, End, Kind}
 use Rattle.std.specs.Prelude.{vec_len, vec_capacity}
 use Rattle.std.specs.List.{range_with_len}
-use Rattle.tc_isa.specs.Sets.{locks_of}
 use Rattle.tc_isa.specs.declared.limits.TheConstants.{MAX_HELD}
 use Rattle.tc_turn.proofs.Few.{fewer}
 pub use Rattle.std.proofs.lemmas.Bool.{and_parts, both_ways}
-use Rattle.std.proofs.lemmas.Bool.Decides.{eqb_tells}
 use Rattle.tc_journal.specs.Handing.{is_cut, was_cut}
-use Rattle.tc_journal.specs.declared.block.End.{End}
 use Rattle.tc_journal.specs.declared.block.End.TheVariants.{Wants, Unlocked, Slept, Cut, Exit, Fault, Spent}
-use Rattle.tc_journal.specs.declared.block.Kind.{Kind}
-use Rattle.tc_turn.specs.Replay.{Entry}
-use Rattle.tc_turn.proofs.Turns.{next_free, next_known, next_by_own}
-use Rattle.tc_context.specs.declared.package.Grant.{Grant}
-use Rattle.tc_mutex_spec.proofs.Replaying.{running_is}
 pub use Rattle.tc_mutex_spec.proofs.OptionLaws.{map_some, some_map, some_of, option_map-twice, then_some, else_some}
 use Rattle.tc_context.specs.declared.package.Contents.{Contents}
-use Rattle.tc_context.proofs.LockList.{with_locks, put_place}
-use Rattle.tc_lemmas.proofs.Tests.{eq_self}
+use Rattle.tc_context.proofs.LockList.{mapped_at, with_locks, put_place}
 
 -- the contents of a box are those that the package shows
 pub record Shows (a : Contents) (v : PackageView) : Type 0 where
@@ -30,12 +21,29 @@ pub record Shows (a : Contents) (v : PackageView) : Type 0 where
 pub shows : {a b : Contents} {v : PackageView} → a ≡ b → view_of b ≡ v → KeptPackage b → Shows a v
 shows same is kept = record { is = ap view_of same ∙ is; kept = subst KeptPackage (sym same) kept }
 
+-- contents in which no block is pending, as they are seen
+pub record Rests (a : Contents) (v : PackageView) : Type 0 where
+  pub none : pending_in a.pending a.log.items ≡ None
+  pub is : view_with None a ≡ v
+  pub sound : IsSoundPackage (view_with None a)
+  pub ended : AreEnded (context_with None a)
+
+pub rests : {a : Contents} {v : PackageView} → Shows a v → v.pending ≡ None → Rests a v
+rests {a} {v} s rest =
+    let none : pending_in a.pending a.log.items ≡ None = ap (λ (x : PackageView). x.pending) s.is ∙ rest in
+    record {
+      none = none;
+      is = ap (λ o. view_with o a) (sym none) ∙ s.is;
+      sound = subst (λ o. IsSoundPackage (view_with o a)) none s.kept.sound;
+      ended = subst (λ o. AreEnded (context_with o a)) none s.kept.ended;
+    }
+
 -- contents whose thread has its own memory, as they are
 abbrev pub bare_view : Contents → PackageView
-bare_view a = record (view_of a) { context = a.context }
+bare_view a = record (view_with None a) { context = a.context }
 
-pub bare : (a : Contents) → a.first ≡ None → bare_view a ≡ view_of a
-bare a none = ap (λ first. record (view_of a) { context = record { thread = a.context.thread; guest = guest_in first a.context.guest; locks = a.context.locks } }) (sym none)
+pub bare : (a : Contents) → a.first ≡ None → bare_view a ≡ view_with None a
+bare a none = ap (λ first. record (view_with None a) { context = record { thread = a.context.thread; guest = guest_in first a.context.guest; locks = a.context.locks } }) (sym none)
 
 -- contents with room for a block, in which the thread has its own memory
 pub record Ready (a : Contents) (v : PackageView) : Type 0 where
@@ -44,27 +52,31 @@ pub record Ready (a : Contents) (v : PackageView) : Type 0 where
   pub is : bare_view a ≡ v
   pub sound : IsSoundPackage (bare_view a)
   pub next : a.next ≡ next_lock a.of.value (thread_in a.context)
+  pub ended : AreEnded a.context
 
-pub ready : (a : Contents) (v : PackageView) → Shows a v → 0 < v.log_room → Ready a v
-ready a v s reserved =
+pub ready : (a : Contents) (v : PackageView) → Shows a v → v.pending ≡ None → 0 < v.log_room → Ready a v
+ready a v s rest reserved =
     let some = subst (λ (v : PackageView). 0 < v.log_room) (sym s.is) reserved in
     let room : vec_len a.log < vec_capacity a.log = omega (arith, some) in
     let none = s.kept.own room in
+    let r = rests s rest in
     record {
       none = none;
       room = room;
-      is = bare a none ∙ s.is;
-      sound = subst IsSoundPackage (sym (bare a none)) s.kept.sound;
+      is = bare a none ∙ r.is;
+      sound = subst IsSoundPackage (sym (bare a none)) r.sound;
       next = s.kept.next ∙ next_by_own a.of.value _ (thread_in a.context);
+      ended = subst (λ (x : PackageView). AreEnded x.context) (sym (bare a none)) r.ended;
     }
 
 -- so is what a block makes of them, as it is seen
-pub ran_seen : (P : PackageView → Type 0) (a : Contents) (new : Context) (log : List Block) (room now slept : ℕ) → a.first ≡ None → now ≡ room
-    → P (record (bare_view a) { context = new; granted = None; pending = last_of log; log = log; log_room = room; slept = slept })
-    → P (record (bare_view a) { context = record { thread = new.thread; guest = guest_in a.first new.guest; locks = new.locks }; granted = None; pending = last_of log; log = log; log_room = now; slept = slept })
-ran_seen P a new log room now slept none same ran =
-    subst (λ n. P (record (bare_view a) { context = record { thread = new.thread; guest = guest_in a.first new.guest; locks = new.locks }; granted = None; pending = last_of log; log = log; log_room = n; slept = slept })) (sym same)
-    (subst (λ first. P (record (bare_view a) { context = record { thread = new.thread; guest = guest_in first new.guest; locks = new.locks }; granted = None; pending = last_of log; log = log; log_room = room; slept = slept })) (sym none) ran)
+pub ran_seen : (P : PackageView → Type 0) (a : Contents) (new : Context) (b : Block) (log : List Block) (room now slept : ℕ) → a.first ≡ None → now ≡ room → last_of log ≡ Some b
+    → P (record (bare_view a) { context = shut b new; granted = None; pending = Some b; log = log; log_room = room; slept = slept })
+    → P (record (bare_view a) { context = record { thread = new.thread; guest = guest_in a.first new.guest; locks = locks_with (last_of log) new.guest.regs new.locks }; granted = None; pending = last_of log; log = log; log_room = now; slept = slept })
+ran_seen P a new b log room now slept none same last ran =
+    subst (λ o. P (record (bare_view a) { context = record { thread = new.thread; guest = guest_in a.first new.guest; locks = locks_with o new.guest.regs new.locks }; granted = None; pending = o; log = log; log_room = now; slept = slept })) (sym last)
+    (subst (λ n. P (record (bare_view a) { context = record { thread = new.thread; guest = guest_in a.first new.guest; locks = closed_all b new.guest.regs new.locks }; granted = None; pending = Some b; log = log; log_room = n; slept = slept })) (sym same)
+    (subst (λ first. P (record (bare_view a) { context = record { thread = new.thread; guest = guest_in first new.guest; locks = closed_all b new.guest.regs new.locks }; granted = None; pending = Some b; log = log; log_room = room; slept = slept })) (sym none) ran))
 
 -- a lock rests by its sealed entries alone
 pub rests_as : (k : ℕ) (x l : LockView) → l.journal.sealed ≡ x.journal.sealed → EndsSection k x → EndsSection k l
@@ -210,6 +222,47 @@ same_set old new same k = sym (some_map kept (lock_in new k)) ∙ ap is_some (sa
 
 pub roomier_set : (p q : PackageView) (k : ℕ) → IsRoomier p q → set_of q.context k ≡ set_of p.context k
 roomier_set p q k roomier = same_set p.context.locks q.context.locks roomier.locks k
+
+-- so it is as they are seen
+pub same_seen : (o : Option Block) (regs : Registers) (old new : List (Option LockView)) → SameLocks old new → SameLocks (locks_with o regs old) (locks_with o regs new)
+same_seen None regs old new same k = same k
+same_seen (Some b) regs old new same k =
+    let g = with_journal (closed_with b regs) in
+    let outer = option_map-twice g kept (λ l. kept (g l)) in
+    let inner = option_map-twice kept g (λ l. kept (g l)) in
+    ap (option_map kept) (mapped_at g new k) ∙ outer (lock_in new k) (λ l. refl) ∙ sym (inner (lock_in new k) (λ l. refl)) ∙ ap (option_map g) (same k)
+    ∙ inner (lock_in old k) (λ l. refl) ∙ sym (outer (lock_in old k) (λ l. refl)) ∙ sym (ap (option_map kept) (mapped_at g old k))
+
+pub seen_places : (o : Option Block) (regs : Registers) (locks : List (Option LockView)) → length locks ≡ 32 → length (locks_with o regs locks) ≡ 32
+seen_places None regs locks full = full
+seen_places (Some b) regs locks full = length-map locks (option_map (with_journal (closed_with b regs))) ∙ full
+
+-- what each lock has room for it has room for as it is seen
+pub roomy_seen : (o : Option Block) (regs : Registers) (locks : List (Option LockView)) → EachLock (λ k l. HasRoomFor MAX_TURNS l.journal) locks → EachLock (λ k l. HasRoomFor MAX_TURNS l.journal) (locks_with o regs locks)
+roomy_seen None regs locks each k l e = each k l e
+roomy_seen (Some b) regs locks each k l e =
+    let g = with_journal (closed_with b regs) in
+    let x = map_some g (lock_in locks k) l (sym (mapped_at g locks k) ∙ e) in
+    let room = each k x.0 x.1 in
+    subst (λ (y : LockView). HasRoomFor MAX_TURNS y.journal) (sym x.2) (record { entry = room.entry; words = room.words })
+
+-- nor does a block that isn't sealed ask more of them
+unsealed_as : (b : Block) (regs : Registers) (k : ℕ) (x l : LockView) → kept l ≡ kept x → IsUnsealed b regs k x → IsUnsealed b regs k l
+unsealed_as b regs k x l same u = record {
+  closed = ap (λ (y : LockView). y.journal.closed) same ∙ u.closed;
+  others = λ out. ap (λ (y : LockView). y.journal.opened) same ∙ u.others out;
+  opened = λ h. ap (λ (y : LockView). is_some y.journal.opened) same ∙ u.opened h;
+  ended = λ h e. ap (λ (y : LockView). y.broken) same ∙ u.ended h e;
+  closes = λ h o e.
+      (let c = u.closes h o (sym (ap (λ (y : LockView). y.journal.opened) same) ∙ e) in
+      let d = subst (λ (y : LockView). Closes y b regs o) (sym same) (record { replays = c.replays; lock = c.lock }) in
+      record { replays = d.replays; lock = d.lock });
+}
+
+pub unsealed_rooms : (b : Block) (was now : Registers) (old new : List (Option LockView)) → now ≡ was → SameLocks old new → EachLock (IsUnsealed b was) old → EachLock (IsUnsealed b now) new
+unsealed_rooms b was now old new is same each k l e =
+    let x = lock_was (lock_in old k) (lock_in new k) l (same k) e in
+    subst (λ regs. IsUnsealed b regs k l) (sym is) (unsealed_as b was k x.0 l x.2 (each k x.0 x.1))
 
 -- nor does the number of queue turns count
 pub sound_rooms : (p : PackageView) (locks : List (Option LockView)) (room turns : ℕ) → length locks ≡ 32 → SameLocks p.context.locks locks → IsSoundPackage p → IsSoundPackage (with_rooms p locks room turns)

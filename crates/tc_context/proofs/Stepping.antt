@@ -1,101 +1,126 @@
 -- A turn of a run, whatever fuel there is, is a turn of the package.
-use Rattle.std.proofs.Common.{◌≡◌, ℕ, suc, ◌-◌, ◌<◌, ◌≤◌, Bool, true, false, ◌&&◌, ◌==◌, List, [], ◌∷◌, refl, sym, ap, subst, ◌∙◌, arith, Option, Some, None, is_some, if◌then◌else◌}
-use Rattle.std.proofs.lemmas.Bool.Decides.{nat_tests}
-use Rattle.tc_isa.specs.Registers.{Registers}
+use Rattle.std.proofs.Common.{◌≡◌, ℕ, suc, ◌-◌, ◌<◌, ◌≤◌, Bool, true, false, ◌==◌, List, refl, sym, ap, subst, ◌∙◌, arith, Option, Some, None, is_some, if◌then◌else◌}
+use Rattle.tc_isa.specs.declared.instr.LoadKind.{LoadKind}
+use Rattle.tc_isa.specs.declared.instr.StoreKind.{StoreKind}
 use Rattle.tc_elf.specs.declared.image.Region.TheVariants as region
-use Rattle.tc_exec.specs.InPlace.{done_of}
-use Rattle.tc_exec.specs.Step.{act_of, wants_of}
-use Rattle.tc_exec.specs.Told.{taken_by}
+use Rattle.tc_exec.specs.Touch.{is_own, IsTouched}
 use Rattle.tc_exec.specs.declared.outcome.Act.TheVariants.{Next}
 use Rattle.tc_exec.specs.declared.outcome.Done.TheVariants as done
-use Rattle.tc_exec.specs.declared.outcome.Put.{Put}
-use Rattle.tc_exec.specs.declared.outcome.Want.{Want}
 use Rattle.tc_exec.specs.declared.outcome.Want.TheVariants as want
-use Rattle.tc_turn.specs.Own.{IsOwnStep}
-use Rattle.tc_turn.specs.Reads.{Covers}
-use Rattle.tc_turn.specs.Turn.{answer_of, own_after}
-use Rattle.tc_turn.proofs.OwnTurns.{none_next, next_is}
-use Rattle.tc_mutex_spec.proofs.OptionLaws.{option_map-id}
-use Rattle.tc_segment.proofs.Words.{noted_nil}
-use Rattle.tc_context.specs.Run.{MayRun, IsGone, fuelled}
-use Rattle.tc_context.proofs.Vocabulary.{option_map, has, Shown, Guest, thread_after, outcome_of, answer_to, LockView, Journal, with_journal, noted, Context, lock_in, mutex_of, AreOf, Changed, EachHeld, TurnFits, TurnReady, when_in, noted_in, turned, thread_in, mutex_at, journal_at, journal_in, act_in, noted_when, GoesOn, IsStep}
-use Rattle.tc_context.proofs.LockList.{when_field}
+use Rattle.tc_exec.specs.declared.touch.Touched.{Touched}
+use Rattle.tc_exec.specs.declared.touch.Touched.TheVariants as touched
+use Rattle.tc_exec.proofs.Loaded.{set_steps}
+use Rattle.tc_turn.proofs.OwnTurns.{none_next, next_is, own_answer, own_put}
+use Rattle.tc_context.specs.declared.run.Way.TheVariants as way
+use Rattle.tc_context.proofs.Vocabulary.{option_map, has, Shown, Thread, Guest, thread_of, thread_after, outcome_of, answer_to, LockView, lock_in, Context, AreOf, Changed, EachHeld, TurnFits, TurnReady, noted_in, turned, thread_in, mutex_at, journal_in, act_in, GoesOn, IsStep, nat_tests, option_map-id, Registers, with_register, region_of, Region, load_width, store_width, extended, put_at, at_next, set, done_of, act_of, wants_of, taken_by, Put, Want, open_want, open_load, open_store, IsPlain, IsLoad, IsStore, IsOwnLoad, IsOwnStore, Covers, answer_of, own_after, MayRun, IsGone, HasGone, fuelled}
 use Rattle.tc_context.proofs.Partway.{may_more}
-use Rattle.tc_context.proofs.Moved.{identifies_when, keeps_changed, mutexes_same, journals_changed, turn_from, turn_ready, turn_fits}
+use Rattle.tc_context.proofs.Moved.{none_noted, turn_from, turn_ready, turn_fits}
 
--- ---- a turn of the thread's own memory
+-- a turn that changes no lock
+went_in : (held : ℕ → Bool) (locks : List (Option LockView)) → Changed (turned held (Some done.Went)) locks locks
+went_in held locks k = sym (option_map-id (turned held (Some done.Went) k) (lock_in locks k) (λ l. refl))
 
--- these words are noted in each lock of the block
-abbrev words_in : (ℕ → Bool) → List ℕ → ℕ → LockView → LockView
-words_in block ws k l = when_in (block k) (with_journal (noted ws)) l
+-- nor does a store in the thread's own memory
+own_turned : (place : Region) (held : ℕ → Bool) (addr width value : ℕ) (locks : List (Option LockView)) → is_own place ≡ true → Changed (turned held (Some (done.Stored (put_at place addr width value)))) locks locks
+own_turned region.Text held addr width value locks e = absurd (cc)
+own_turned region.Private held addr width value locks e = λ k. sym (option_map-id (turned held (Some (done.Stored (put_at region.Private addr width value))) k) (lock_in locks k) (λ l. refl))
+own_turned region.Stack held addr width value locks e = λ k. sym (option_map-id (turned held (Some (done.Stored (put_at region.Stack addr width value))) k) (lock_in locks k) (λ l. refl))
+own_turned (region.Guard lock) held addr width value locks e = absurd (cc)
+own_turned region.Nothing held addr width value locks e = absurd (cc)
 
-journal_with : (b : Bool) (ws : List ℕ) (l : LockView) → (when_in b (with_journal (noted ws)) l).journal ≡ noted_when b ws l.journal
-journal_with true ws l = refl
-journal_with false ws l = refl
-
-pub none_in : (block : ℕ → Bool) (locks : List (Option LockView)) → Changed (words_in block []) locks locks
-none_in block locks k = sym (option_map-id (words_in block [] k) (lock_in locks k) (λ l. when_field (λ x. x) (block k) (with_journal (noted [])) l (ap (λ (j : Journal). record l { journal = j }) (noted_nil l.journal))))
-
-when_true : (b : Bool) (f : LockView → LockView) (l : LockView) → when_in (b && true) f l ≡ when_in b f l
-when_true true f l = refl
-when_true false f l = refl
-
-pub one_in : (block : ℕ → Bool) (number addr width : ℕ) (old new : List (Option LockView)) → Changed (noted_in block (want.Load region.Private addr width) None number) old new → Changed (words_in block (number ∷ [])) old new
-one_in block number addr width old new changed k = changed k ∙ (elim (lock_in old k) as (λ o. option_map (noted_in block (want.Load region.Private addr width) None number k) o ≡ option_map (words_in block (number ∷ []) k) o) [
-  | None ↦ refl
-  | Some l ↦ ap Some (when_true (block k) (with_journal (noted (number ∷ []))) l)
-])
-
-pub own_gone : (image : Shown) (block : ℕ → Bool) (ws : List ℕ) (p : Context) (h : Guest) (locks : List (Option LockView)) → IsOwnStep image ws p.guest h → Changed (words_in block ws) p.locks locks
-    → IsGone image block p (record { thread = p.thread; guest = h; locks = locks })
-own_gone image block ws p h locks own changed = record {
-  step = λ left some.
-      (let t = own.turn left some in
-      let old = fuelled left p in
-      let new : Context = fuelled (left - 1) (record { thread = p.thread; guest = h; locks = locks }) in
-      let f = words_in block ws in
-      record {
-        none = t.none;
-        turn = record {
-          keeps = keeps_changed f old new (λ k l. identifies_when (block k) (with_journal (noted ws)) l refl refl) changed refl;
-          thread = sym (t.after (mutex_at old));
-          locks = λ k here. mutexes_same f old new changed refl (λ j. ap (λ (s : ℕ → Bool). s j) t.held) (λ t j b l e. when_field (mutex_of t b) (block j) (with_journal (noted ws)) l refl) k ∙ sym (t.alone (mutex_at old) p.thread k (mutex_at old k));
-          journals = λ k. journals_changed f (λ j. noted_when (block j) ws) old new changed (λ j l e. journal_with (block j) ws l) k ∙ ap (λ v. option_map (noted_when (block k) v) (journal_at old k)) (sym (t.words (mutex_at old) k));
-        };
-        went = t.went (mutex_at old);
-      });
-  fuel = own.fuel;
-}
-
--- ---- a turn of a guard
+-- a number of the thread's own memory is noted wherever it is
+own_noted : (place : Region) (block : ℕ → Bool) (addr width number : ℕ) (old new : List (Option LockView)) → is_own place ≡ true → Changed (noted_in block (want.Load region.Private 0 1) None number) old new
+    → Changed (noted_in block (want.Load place addr width) None number) old new
+own_noted region.Text block addr width number old new e changed = absurd (cc)
+own_noted region.Private block addr width number old new e changed = changed
+own_noted region.Stack block addr width number old new e changed = changed
+own_noted (region.Guard lock) block addr width number old new e changed = absurd (cc)
+own_noted region.Nothing block addr width number old new e changed = absurd (cc)
 
 -- with fuel there is a next turn
 filled : (left : ℕ) → 0 < left → (left == 0) ≡ false
 filled left some = grind (arith, nat_tests)
 
-pub guard_gone : (image : Shown) (block : ℕ → Bool) (p : Context) (wanted : Want) (answer : ℕ) (next : Registers) (put : Option Put) (mid locks : List (Option LockView)) → AreOf image p.locks
+-- the package, with another thread of the same number and other locks
+abbrev pub with_both : Context → Guest → List (Option LockView) → Context
+with_both p h locks = record { thread = p.thread; guest = h; locks = locks }
+
+gone : (image : Shown) (block : ℕ → Bool) (p : Context) (h : Guest) (wanted : Want) (answer : ℕ) (put : Option Put) (mid locks : List (Option LockView)) → AreOf image p.locks
     → wants_of image (has p.guest.held) p.guest.regs ≡ wanted → answer ≡ answer_to image wanted None (thread_in p).own (mutex_at p)
-    → act_of image (has p.guest.held) p.guest.regs answer ≡ Next next put → taken_by (act_of image (has p.guest.held) p.guest.regs 0) ≡ None → own_after put (thread_in p).own ≡ (thread_in p).own
-    → Changed (noted_in block wanted None answer) p.locks mid → Changed (turned (has p.guest.held) (Some (done_of (Next next put)))) mid locks
-    → IsGone image block p (record { thread = p.thread; guest = record p.guest { regs = next }; locks = locks })
-guard_gone image block p wanted answer next put mid locks of wants found act free own noted changed = record {
+    → act_of image (has p.guest.held) p.guest.regs answer ≡ Next h.regs put → taken_by (act_of image (has p.guest.held) p.guest.regs 0) ≡ None
+    → thread_of h ≡ record (thread_of p.guest) { regs = h.regs; own = own_after put (thread_of p.guest).own }
+    → Changed (noted_in block wanted None answer) p.locks mid → Changed (turned (has p.guest.held) (Some (done_of (Next h.regs put)))) mid locks → IsGone image block p (with_both p h locks)
+gone image block p h wanted answer put mid locks of wants found act free after noted changed = record {
   step = λ left some.
       (let old = fuelled left p in
-      let new : Context = fuelled (left - 1) (record { thread = p.thread; guest = record p.guest { regs = next }; locks = locks }) in
+      let new : Context = fuelled (left - 1) (with_both p h locks) in
       let d = thread_in old in
       let full = filled left some in
       let none = none_next image d full free in
       let got : answer_of image d (mutex_at old) ≡ answer = (λ i. answer_to image (wants i) (none i) d.own (mutex_at old)) ∙ sym found in
-      let is : act_in image old ≡ Some (Next next put) = next_is image d (mutex_at old) (Next next put) full (ap (act_of image d.held d.regs) got ∙ act) in
-      let after : thread_in new ≡ thread_after d (Some (Next next put)) = ap (λ (o : ℕ → Option ℕ). record { regs = next; own = o; fuel = left - 1; status = d.status; held = d.held }) (sym own) in
+      let is : act_in image old ≡ Some (Next h.regs put) = next_is image d (mutex_at old) (Next h.regs put) full (ap (act_of image d.held d.regs) got ∙ act) in
+      let behind : thread_in new ≡ thread_after d (Some (Next h.regs put)) = ap (λ (e : Thread). record { regs = e.regs; own = e.own; fuel = left - 1; status = e.status; held = e.held }) after in
       record {
         none = none;
         turn = turn_from image block block old new mid wanted None answer of (sym wants) (sym none) found (λ k. ap (λ b. if b then false else block k) (sym full)) noted
-            (subst (λ o. Changed (turned (has p.guest.held) o) mid locks) (sym (ap (option_map done_of) is)) changed) refl (after ∙ ap (thread_after d) (sym is));
+            (subst (λ o. Changed (turned (has p.guest.held) o) mid locks) (sym (ap (option_map done_of) is)) changed) refl (behind ∙ ap (thread_after d) (sym is));
         went = ap outcome_of is;
       });
-  fuel = refl;
+  fuel = ap (λ (e : Thread). e.fuel) after;
 }
+
+-- ---- the kinds of turns
+
+pub plain_gone : (image : Shown) (block : ℕ → Bool) (p : Context) (h : Guest) → AreOf image p.locks → IsPlain image p.guest h → IsGone image block p (with_both p h p.locks)
+plain_gone image block p h of is =
+    gone image block p h want.Nothing 0 None p.locks p.locks of is.want refl (is.act 0) (ap taken_by (is.act 0)) (ap thread_of is.rest) (none_noted block 0 p.locks) (went_in (has p.guest.held) p.locks)
+
+pub load_gone : (image : Shown) (block : ℕ → Bool) (p : Context) (h : Guest) (kind : LoadKind) (rd addr number : ℕ) (at : Touched) (locks : List (Option LockView)) → AreOf image p.locks → IsLoad image p.guest kind rd addr
+    → IsTouched image (has p.guest.held) addr (load_width kind) at → number ≡ answer_to image (want.Load (region_of image addr (load_width kind)) addr (load_width kind)) None (thread_in p).own (mutex_at p)
+    → h ≡ record p.guest { regs = at_next (with_register p.guest.regs rd (extended kind number)) } → Changed (noted_in block (want.Load (region_of image addr (load_width kind)) addr (load_width kind)) None number) p.locks locks
+    → HasGone image block p (with_both p h locks) way.Next
+load_gone image block p h kind rd addr number at locks of load is found after noted =
+    let held = has p.guest.held in
+    let regs = ap (λ (g : Guest). g.regs) after in
+    let act : (answer : ℕ) → act_of image held p.guest.regs answer ≡ set p.guest.regs rd (extended kind answer) = λ answer. load.act answer ∙ open_load image held p.guest.regs answer kind rd addr at is in (
+      gone image block p h (want.Load (region_of image addr (load_width kind)) addr (load_width kind)) number None locks locks of (load.want ∙ open_want image held kind addr at is) found
+          (act number ∙ ap (λ r. Next r None) (sym regs)) (ap taken_by (act 0)) (ap thread_of after ∙ ap (λ r. record (thread_of p.guest) { regs = r }) (sym regs)) noted (went_in held locks),
+      ap (λ (r : Registers). r.pc) regs ∙ set_steps p.guest.regs rd (extended kind number),
+    )
+
+pub own_loaded : (image : Shown) (block : ℕ → Bool) (p : Context) (h : Guest) (kind : LoadKind) (rd addr number : ℕ) (locks : List (Option LockView)) → AreOf image p.locks → IsLoad image p.guest kind rd addr
+    → IsOwnLoad image kind rd addr p.guest h number → Changed (noted_in block (want.Load region.Private 0 1) None number) p.locks locks → HasGone image block p (with_both p h locks) way.Next
+own_loaded image block p h kind rd addr number locks of load is noted =
+    let width = load_width kind in
+    let place = region_of image addr width in
+    load_gone image block p h kind rd addr number touched.Own locks of load is.own (is.number ∙ sym (own_answer image place addr width None (thread_in p) (mutex_at p) is.own.lies)) is.after
+    (own_noted place block addr width number p.locks locks is.own.lies noted)
+
+-- what a store does, where its place is known
+pub stored_act : (image : Shown) (p : Context) (kind : StoreKind) (addr value : ℕ) (put : Put) (at : Touched) → IsStore image p.guest kind addr value → IsTouched image (has p.guest.held) addr (store_width kind) at
+    → put_at (region_of image addr (store_width kind)) addr (store_width kind) value ≡ put → (answer : ℕ) → act_of image (has p.guest.held) p.guest.regs answer ≡ Next (at_next p.guest.regs) (Some put)
+stored_act image p kind addr value put at store is puts answer = store.act answer ∙ open_store image (has p.guest.held) p.guest.regs kind addr value at is ∙ ap (λ q. Next (at_next p.guest.regs) (Some q)) puts
+
+pub store_gone : (image : Shown) (block : ℕ → Bool) (p : Context) (h : Guest) (kind : StoreKind) (addr value : ℕ) (put : Put) (at : Touched) (locks : List (Option LockView)) → AreOf image p.locks → IsStore image p.guest kind addr value
+    → IsTouched image (has p.guest.held) addr (store_width kind) at → put_at (region_of image addr (store_width kind)) addr (store_width kind) value ≡ put
+    → thread_of h ≡ record (thread_of p.guest) { regs = at_next p.guest.regs; own = own_after (Some put) (thread_of p.guest).own } → Changed (turned (has p.guest.held) (Some (done.Stored put))) p.locks locks
+    → HasGone image block p (with_both p h locks) way.Next
+store_gone image block p h kind addr value put at locks of store is puts after changed =
+    let regs = ap (λ (d : Thread). d.regs) after in
+    let act = stored_act image p kind addr value put at store is puts in (
+      gone image block p h want.Nothing 0 (Some put) p.locks locks of store.want refl (act 0 ∙ ap (λ r. Next r (Some put)) (sym regs)) (ap taken_by (act 0))
+          (after ∙ ap (λ r. record (thread_of p.guest) { regs = r; own = own_after (Some put) (thread_of p.guest).own }) (sym regs)) (none_noted block 0 p.locks) changed,
+      ap (λ (r : Registers). r.pc) regs,
+    )
+
+pub own_stored : (image : Shown) (block : ℕ → Bool) (p : Context) (h : Guest) (kind : StoreKind) (addr value : ℕ) → AreOf image p.locks → IsStore image p.guest kind addr value → IsOwnStore image kind addr value p.guest h
+    → HasGone image block p (with_both p h p.locks) way.Next
+own_stored image block p h kind addr value of store is =
+    let width = store_width kind in
+    let place = region_of image addr width in
+    store_gone image block p h kind addr value (put_at place addr width value) touched.Own p.locks of store is.own refl
+    (is.after ∙ ap (λ (o : ℕ → Option ℕ). record (thread_of p.guest) { regs = at_next p.guest.regs; own = o }) (sym (own_put place (thread_of p.guest).own addr width value is.own.lies)))
+    (own_turned place (has p.guest.held) addr width value p.locks is.own.lies)
 
 -- what a store in a guard asks of the locks
 pub store_may : (image : Shown) (block : ℕ → Bool) (n : ℕ) (p : Context) (next : Registers) (put : Put) → MayRun image block n p → ((answer : ℕ) → act_of image (has p.guest.held) p.guest.regs answer ≡ Next next (Some put))
@@ -138,7 +163,3 @@ note_may image block p may = (
   λ k l found h. may.opened k l.journal (ap (option_map journal_in) found) h,
   λ k l found h. (let r = may.room k l.journal (ap (option_map journal_in) found) h in omega (arith, r)),
 )
-
--- a turn that changes no lock
-pub went_in : (held : ℕ → Bool) (locks : List (Option LockView)) → Changed (turned held (Some done.Went)) locks locks
-went_in held locks k = sym (option_map-id (turned held (Some done.Went) k) (lock_in locks k) (λ l. refl))

@@ -9,6 +9,7 @@ use Rattle.tc_exec.specs.Step.{instruction_at}
 use Rattle.tc_exec.specs.declared.code.Ahead.{Ahead}
 use Rattle.tc_journal.specs.Batch.{is_section}
 use Rattle.tc_journal.specs.History.{IsBlock, IsEnd}
+use Rattle.tc_journal.specs.declared.block.Block.{Block}
 use Rattle.tc_journal.specs.declared.block.Kind.{Kind}
 use Rattle.tc_turn.specs.Ahead.{IsAhead}
 use Rattle.tc_turn.specs.Memory.{own_of}
@@ -17,7 +18,7 @@ use Rattle.tc_context.specs.declared.context.Context.{Context}
 use Rattle.tc_context.specs.declared.context.Ran.{Ran}
 use Rattle.tc_context.specs.declared.context.Turns.{Turns}
 use Rattle.tc_context.specs.Whole.{thread_in, CanGo, RunsAs, Journals, AreEnded}
-use Rattle.tc_context.specs.Locks.{lock_in}
+use Rattle.tc_context.specs.Locks.{EachLock, IsUnsealed, closed_all, lock_in}
 use Rattle.tc_context.specs.Middle.{AreNoted, AreReady, MayTurn}
 use Rattle.tc_context.specs.Ran.{slept_in}
 
@@ -55,14 +56,19 @@ pub record MayRunBlock (image decoded : Shown) (kind : Kind) (lock : Option ℕ)
   pub code : decoded ≡ image
   pub go : CanGo image p
   pub takes : lock ≡ next_lock image (thread_in p)
-  pub ready : AreReady image p
+  pub ready : AreReady p
   pub ended : AreEnded p
   pub section : is_section kind ≡ is_some (next_lock image (thread_in p))
 
+-- the context as it is seen behind the turns of this block: the entries of its locks are closed with it
+abbrev pub shut : Block → Context → Context
+shut b p = record { thread = p.thread; guest = p.guest; locks = closed_all b p.guest.regs p.locks }
+
 -- the block that ran, the entries of its locks, the number of its SLEEP, and the lock that the next turn takes
 pub record DidRunBlock (image : Shown) (kind : Kind) (old new : Context) (ran : Ran) : Type 0 where
-  pub runs : RunsAs image old new ran.block.turns ran.block.end
-  pub journals : Journals image old new ran.block
+  pub runs : RunsAs image old (shut ran.block new) ran.block.turns ran.block.end
+  pub journals : Journals image old (shut ran.block new) ran.block
+  pub unsealed : EachLock (IsUnsealed ran.block new.guest.regs) new.locks
   pub sleeps : ran.slept ≡ slept_in image old ran.block.turns
   pub thread : ran.block.thread ≡ old.thread
   pub kind_is : ran.block.kind ≡ kind

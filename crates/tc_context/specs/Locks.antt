@@ -1,6 +1,7 @@
 -- The lock states that a package has, as it and the machine see them.
 use Rattle.std.specs.Prelude.{◌≡◌, ℕ, ◌<◌, ◌≤◌, Bool, true, false, ◌==◌, ◌&&◌, if◌then◌else◌, List, [], ◌∷◌, map, slice_get, length, Option, Some, None, is_some, option_map}
 use Rattle.tc_isa.specs.Registers.{Registers}
+use Rattle.tc_isa.specs.Sets.{has}
 use Rattle.tc_isa.specs.declared.limits.TheConstants.{MAX_TURNS}
 use Rattle.tc_isa.specs.declared.held.TheConstants.Held.{PLACES}
 use Rattle.tc_elf.specs.Shown.{Shown}
@@ -13,11 +14,12 @@ use Rattle.tc_exec.specs.declared.outcome.Done.TheVariants.{Went, Stored, Called
 use Rattle.tc_exec.specs.declared.outcome.Call.TheVariants.{Lock, Unlock, Sleep, Exit}
 use Rattle.tc_exec.specs.declared.outcome.Put.{Put}
 use Rattle.tc_exec.specs.declared.outcome.Want.{Want}
+use Rattle.tc_journal.specs.Batch.{ends_thread}
 use Rattle.tc_journal.specs.declared.block.Block.{Block}
 use Rattle.tc_turn.specs.Turn.{Mutex}
 use Rattle.tc_turn.specs.Replay.{takes_word}
 use Rattle.tc_mutex_spec.specs.Slow.{no_mutex}
-use Rattle.tc_segment.specs.View.{LockView, Journal, EndedAt, ClosesWith, MayFollow, MayPass, kept, lock_of, guard_of, with_store, with_section, with_break, with_end, with_journal, opened_at, noted, closed_with, sealed_as}
+use Rattle.tc_segment.specs.View.{LockView, Journal, EndedAt, ClosesWith, MayFollow, MayPass, kept, lock_of, guard_of, with_store, with_section, with_break, with_journal, opened_at, noted, closed_with, sealed_as, sealed_with}
 use Rattle.tc_context.specs.declared.room.Room.{Room}
 
 abbrev pub slot_of : Option (Option LockView) → Option LockView
@@ -74,17 +76,21 @@ pub record MayGoOn (regs : Registers) (l : LockView) : Type 0 where
   pub ready : IsReady l.journal
   pub ended : EndedAt regs l.journal
 
--- the open entry may be that of this block, which ended so
-pub record CanClose (image : Shown) (block : Block) (finish : Registers) (l : LockView) : Type 0 where
-  pub image_is : l.journal.image ≡ image
-  pub opened : is_open_lock l ≡ true
-  pub closes : ClosesWith block finish l
+-- lock k behind the turns of a block that isn't sealed: the entries of the block's locks are open, and they may be its entries
+pub record IsUnsealed (block : Block) (finish : Registers) (k : ℕ) (l : LockView) : Type 0 where
+  pub closed : l.journal.closed ≡ None
+  pub others : has block.held k ≡ false → l.journal.opened ≡ None
+  pub opened : has block.held k ≡ true → is_open_lock l ≡ true
+  pub ended : has block.held k ≡ true → ends_thread block.end ≡ true → l.broken ≡ true
+  pub closes : has block.held k ≡ true → ClosesWith block finish l
 
--- the closed entry may have this stamp and worker
-pub record CanSeal (stamp worker : ℕ) (l : LockView) : Type 0 where
-  pub closed : is_some l.journal.closed ≡ true
-  pub follows : MayFollow stamp worker l
-  pub passes : MayPass l
+-- the open entry may be that of this block, and sealed with its stamp and worker
+pub record CanSeal (block : Block) (finish : Registers) (l : LockView) : Type 0 where
+  pub opened : is_open_lock l ≡ true
+  pub ended : ends_thread block.end ≡ true → l.broken ≡ true
+  pub closes : ClosesWith block finish l
+  pub follows : MayFollow block.stamp block.worker (with_journal (closed_with block finish) l)
+  pub passes : MayPass (with_journal (closed_with block finish) l)
 
 -- place n has this now, and the others have what they had
 abbrev pub IsPlaced : ℕ → Option LockView → List (Option LockView) → List (Option LockView) → Type 0
@@ -174,11 +180,12 @@ opened_in held start fuel k l = when_in (held k) (with_journal (opened_at (lock_
 abbrev pub noted_in : (ℕ → Bool) → Want → Option ℕ → ℕ → ℕ → LockView → LockView
 noted_in held want next value k l = when_in (held k && takes_word k want next) (with_journal (noted (value ∷ []))) l
 
-abbrev pub closed_in : (ℕ → Bool) → Block → Registers → ℕ → LockView → LockView
-closed_in held block finish k l = when_in (held k) (λ m. with_end block.end (with_journal (closed_with block finish) m)) l
+abbrev pub sealed_in : (ℕ → Bool) → Block → Registers → ℕ → LockView → LockView
+sealed_in held block finish k l = when_in (held k) (with_journal (sealed_with block finish)) l
 
-abbrev pub sealed_in : (ℕ → Bool) → ℕ → ℕ → ℕ → LockView → LockView
-sealed_in held stamp worker k l = when_in (held k) (with_journal (sealed_as stamp worker)) l
+-- each open entry is closed with this block
+abbrev pub closed_all : Block → Registers → List (Option LockView) → List (Option LockView)
+closed_all block finish locks = map (option_map (with_journal (closed_with block finish))) locks
 
 -- each entry that isn't sealed yet is
 abbrev pub sealed_all : ℕ → ℕ → List (Option LockView) → List (Option LockView)

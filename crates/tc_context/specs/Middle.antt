@@ -15,7 +15,7 @@ use Rattle.tc_mutex_spec.specs.Blocks.{reach}
 use Rattle.tc_segment.specs.View.{Journal, noted}
 use Rattle.tc_context.specs.declared.context.Context.{Context}
 use Rattle.tc_context.specs.Locks.{when_in, IsReady}
-use Rattle.tc_context.specs.Whole.{thread_in, mutex_at, whole, set_of, journal_at, block_locks, CanGo, Keeps}
+use Rattle.tc_context.specs.Whole.{thread_in, mutex_at, whole, set_of, journal_at, CanGo, Keeps}
 
 -- what the next turn does, on the package alone
 abbrev pub act_in : Shown → Context → Option Act
@@ -52,9 +52,9 @@ pub record DidTurn (image : Shown) (block : ℕ → Bool) (old new : Context) (d
   pub fits : IfSome did DoneFits
   pub turn : IsTurn image block old new
 
--- the journals of the locks of its next block are ready
-abbrev pub AreReady : Shown → Context → Type 0
-AreReady image p = (k : ℕ) (j : Journal) → journal_at p k ≡ Some j → block_locks image p k ≡ true → IsReady j
+-- the journals of its locks are ready for a block
+abbrev pub AreReady : Context → Type 0
+AreReady p = (k : ℕ) (j : Journal) → journal_at p k ≡ Some j → IsReady j
 
 -- the words of n turns on the package alone, as lock k sees them
 abbrev pub words_of : Shown → Context → ℕ → ℕ → List ℕ

@@ -1,6 +1,6 @@
 //! A thread with the locks that are in its package, and the blocks that it runs.
 
-ghost use Rattle.std.specs.Prelude.{◌≡◌, ℕ, ◌+◌, ◌<◌, ◌≤◌, ◌^◌, ◌==◌, true, false, length, Ok, Err, Some, None, IfOk, IfSome, MatchResult, if◌then◌else◌, vec_len, vec_capacity};
+ghost use Rattle.std.specs.Prelude.{◌≡◌, ℕ, ◌+◌, ◌<◌, ◌≤◌, ◌^◌, ◌==◌, true, false, length, Ok, Err, Some, None, IfOk, IfSome, MatchResult, if◌then◌else◌};
 ghost use Rattle.tc_isa.specs.Sets.{has};
 ghost use Rattle.tc_isa.specs.declared.limits.TheConstants.{MAX_TURNS};
 ghost use Rattle.tc_isa.specs.declared.held.TheConstants.Held.{PLACES};
@@ -14,7 +14,6 @@ ghost use Rattle.tc_turn.specs.Ahead.{IsAhead};
 ghost use Rattle.tc_turn.specs.InPlace.{faulted_if};
 ghost use Rattle.tc_turn.specs.Turn.{lock_answer, next_lock};
 ghost use Rattle.tc_mutex_spec.specs.Blocks.{locks_of_block};
-ghost use Rattle.tc_context.specs.Kept.{IsLogWith};
 ghost use Rattle.tc_context.specs.Ran.{slept_by as slept_of_turn};
 
 use crate::locks::LockSet;
@@ -236,8 +235,8 @@ impl Context {
         }
     }
 
-    /// Runs one block, with an entry in the journal of each of its locks. `takes` is the lock that
-    /// its first turn takes. The block has no stamp and no worker yet, and stands last in the log.
+    /// Runs one block, whose entry is open in the journal of each of its locks afterwards. `takes` is
+    /// the lock that its first turn takes. The block has no stamp and no worker yet.
     pub(crate) fn run_block(
         &mut self,
         image: &Image,
@@ -245,14 +244,11 @@ impl Context {
         kind: Kind,
         takes: Option<u32>,
         edge: &mut Edge,
-        log: &mut Vec<Block>,
     ) -> Ran
         requires may { MayRunBlock image.now code.now kind takes self.old }
         requires packed { edge.old.packed ≡ true → edge.old.regs ≡ self.old.guest.regs }
-        requires room { vec_len log.old < vec_capacity log.old }
         ensures did { DidRunBlock image.now kind self.old self.new result }
-        ensures packed { edge.new.packed ≡ true → edge.new.regs ≡ self.new.guest.regs }
-        ensures log { IsLogWith result.block log.old log.new }
+        ensures packed { edge.new.packed ≡ false }
     {
         let on = self.guest.held();
         let held = block_held(on, takes);
@@ -263,6 +259,7 @@ impl Context {
         let start = self.guest.regs();
         self.locks
             .open_entries(on, takes, &mut edge.regs, edge.packed, start, fuel);
+        edge.packed = false;
         let pc = self.guest.regs().pc();
         let turns = self.turns(image, code, held, takes);
         let block = Block {
@@ -275,20 +272,11 @@ impl Context {
             pc,
             end: turns.end,
         };
-        let ran = Ran {
+        Ran {
             block,
             slept: turns.slept,
             next: turns.next,
-        };
-        // Each journal copies it from the log, where it is one piece of memory: copied field by field it took
-        // twenty instructions more.
-        let last = log.len();
-        log.push_reserved(ran.block);
-        let packed = self
-            .locks
-            .close_entries(image, held, &log[last], &mut edge.regs, self.guest.regs());
-        edge.packed = packed;
-        ran
+        }
     }
 }
 

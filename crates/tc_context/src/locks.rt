@@ -10,11 +10,11 @@ ghost use Rattle.tc_elf.specs.declared.image.Region.TheVariants.{Private};
 ghost use Rattle.tc_exec.specs.Told.{IsWidth};
 ghost use Rattle.tc_exec.specs.declared.outcome.Want.TheVariants.{Load};
 ghost use Rattle.tc_turn.specs.Replay.{takes_word as takes};
-ghost use Rattle.tc_segment.specs.View.{closed_with, guard_of, lock_of, noted, opened_at, sealed_as, with_break, with_end, with_journal, with_section, with_store, HasRoomFor, LockView};
+ghost use Rattle.tc_segment.specs.View.{guard_of, lock_of, noted, opened_at, sealed_with, with_break, with_journal, with_section, with_store, HasRoomFor, LockView};
 ghost use Rattle.tc_mutex_spec.specs.Blocks.{locks_of_block};
 ghost use Rattle.tc_context.specs.Locks.{lock_in, turned, put_in, TurnReady, PutReady, TurnFits, StoreFits};
-ghost use Rattle.tc_context.specs.Locks.{Changed, HoldsAt, EachHeld, EachLock, IsReady, MayGoOn, CanClose, CanSeal, IsPlaced, SameLocks, at_place, when_in};
-ghost use Rattle.tc_context.specs.Locks.{broken_in, opened_in, noted_in, closed_in, sealed_in, Gives, IsWithin};
+ghost use Rattle.tc_context.specs.Locks.{Changed, HoldsAt, EachHeld, EachLock, IsReady, MayGoOn, CanSeal, IsPlaced, SameLocks, at_place, when_in};
+ghost use Rattle.tc_context.specs.Locks.{broken_in, opened_in, noted_in, sealed_in, Gives, IsWithin};
 
 use crate::room::Room;
 use std::alloc::{AllocError, Global};
@@ -244,69 +244,41 @@ impl LockSet {
         }
     }
 
-    fn close_one(&mut self, image: &Image, lock: u32, block: &Block, finish: &Packed)
-        requires { HoldsAt lock (CanClose image.now block.now finish.now) self.old }
-        ensures { Changed (at_place lock
-            (λ l. with_end block.now.end (with_journal (closed_with block.now finish.now) l)))
+    fn seal_one(&mut self, lock: u32, block: &Block, finish: &Packed)
+        requires { HoldsAt lock (CanSeal block.now finish.now) self.old }
+        ensures { Changed (at_place lock (with_journal (sealed_with block.now finish.now)))
             self.old self.new }
     {
         if let Some(state) = &mut self.places[lock as usize] {
-            state.close_packed(image, block, finish);
+            state.close_sealed(block, finish);
         }
     }
 
-    fn close_each(&mut self, image: &Image, held: Held, block: &Block, finish: &Packed)
-        requires { EachHeld (has held) (CanClose image.now block.now finish.now) self.old }
-        ensures { Changed (closed_in (has held) block.now finish.now) self.old self.new }
+    fn seal_each(&mut self, block: &Block, finish: &Packed)
+        requires { EachHeld (has block.now.held) (CanSeal block.now finish.now) self.old }
+        ensures { Changed (sealed_in (has block.now.held) block.now finish.now) self.old self.new }
     {
-        let mut left = held;
+        let mut left = block.held;
         while let Some(lock) = left.least() {
-            self.close_one(image, lock, block, finish);
+            self.seal_one(lock, block, finish);
             left = left.less(lock);
         }
     }
 
-    /// Closes the entry of each of these locks. The registers are packed once for all of them, in
-    /// `edge`, and not at all where there is no lock. Whether they were.
-    pub(crate) fn close_entries(
-        &mut self,
-        image: &Image,
-        held: Held,
-        block: &Block,
-        edge: &mut Packed,
-        finish: &Regs,
-    ) -> bool
-        requires { EachHeld (has held) (CanClose image.now block.now finish.now) self.old }
-        ensures closed { Changed (closed_in (has held) block.now finish.now) self.old self.new }
+    /// Closes the entry of each lock of this block, which has its stamp and worker, and seals it. The
+    /// registers are packed once for all of them, in `edge`, and not at all where there is no lock.
+    /// Whether they were.
+    pub(crate) fn seal(&mut self, block: &Block, edge: &mut Packed, finish: &Regs) -> bool
+        requires { EachHeld (has block.now.held) (CanSeal block.now finish.now) self.old }
+        ensures sealed { Changed (sealed_in (has block.now.held) block.now finish.now) self.old self.new }
         ensures packed { result ≡ true → edge.new ≡ finish.now }
     {
-        if is_empty(held) {
+        if is_empty(block.held) {
             return false;
         }
         edge.set(finish);
-        self.close_each(image, held, block, edge);
+        self.seal_each(block, edge);
         true
-    }
-
-    fn seal_one(&mut self, lock: u32, stamp: u64, worker: u32)
-        requires { HoldsAt lock (CanSeal stamp worker) self.old }
-        ensures { Changed (at_place lock (with_journal (sealed_as stamp worker))) self.old self.new }
-    {
-        if let Some(state) = &mut self.places[lock as usize] {
-            state.seal(stamp, worker);
-        }
-    }
-
-    /// Gives the last entry of each of these locks its stamp and worker.
-    pub(crate) fn seal(&mut self, held: Held, stamp: u64, worker: u32)
-        requires { EachHeld (has held) (CanSeal stamp worker) self.old }
-        ensures { Changed (sealed_in (has held) stamp worker) self.old self.new }
-    {
-        let mut left = held;
-        while let Some(lock) = left.least() {
-            self.seal_one(lock, stamp, worker);
-            left = left.less(lock);
-        }
     }
 
     fn reserve_one(&mut self, lock: u32) -> Result<(), AllocError>

@@ -360,9 +360,9 @@ impl Package {
             kind,
             contents.next,
             &mut contents.edge,
-            &mut contents.log,
         );
         contents.context.locks.bound();
+        contents.log.push_reserved(ran.block);
         contents.room = contents.room.behind(ran.block.turns);
         contents.granted = None;
         contents.pending = true;
@@ -395,8 +395,12 @@ impl Package {
         ensures { self.new ≡ with_seal stamp worker self.old }
     {
         let contents = &mut *self.contents;
-        let held = seal_last(&mut contents.log, stamp, worker);
-        contents.context.locks.seal(held, stamp, worker);
+        let last = seal_last(&mut contents.log, stamp, worker);
+        contents.edge.packed = contents.context.locks.seal(
+            &contents.log[last],
+            &mut contents.edge.regs,
+            contents.context.guest.regs(),
+        );
         contents.context.locks.bound();
         contents.pending = false;
     }
@@ -469,8 +473,8 @@ impl Package {
     }
 }
 
-/// Gives the last block of a log its stamp and worker, and returns its locks.
-fn seal_last(log: &mut Vec<Block>, stamp: u64, worker: u32) -> Held
+/// Gives the last block of a log its stamp and worker, and tells its place.
+fn seal_last(log: &mut Vec<Block>, stamp: u64, worker: u32) -> usize
     requires { 0 < vec_len log.old }
     ensures { DidSealLast stamp worker log.old log.new result }
 {
@@ -478,7 +482,7 @@ fn seal_last(log: &mut Vec<Block>, stamp: u64, worker: u32) -> Held
     let block = &mut log[last];
     block.stamp = stamp;
     block.worker = worker;
-    block.held
+    last
 }
 
 /// Makes room for one block in a log, whose thread has its own memory where there is room.

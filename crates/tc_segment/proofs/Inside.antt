@@ -1,10 +1,9 @@
 -- An access whose place is the guard of a lock lies in that guard.
 use Rattle.std.proofs.Common.{◌≡◌, ℕ, ◌<◌, Bool, true, false, not, ◌&&◌, cond, length, nat_lt, refl, sym, ap, subst, ◌∙◌, arith}
-use Rattle.tc_segment.proofs.Vocabulary.{Shown, guard_at}
+use Rattle.tc_segment.proofs.Vocabulary.{Shown, guard_at, nat_tests}
 use Rattle.std.specs.Prelude.{Some, None, if◌then◌else◌}
 use Rattle.std.specs.List.{list_any, position_or_len}
 use Rattle.std.specs.Option.{option_map_or}
-use Rattle.std.proofs.lemmas.Bool.Decides.{nat_tests}
 use Rattle.std.proofs.lemmas.List.Sums.{passes_at_first}
 use Rattle.tc_elf.specs.Places.{lies_in, in_text, in_writable, touches, in_guard, unguarded_region, region_of}
 use Rattle.tc_elf.specs.declared.limits.TheConstants.{STACK_START, STACK_LENGTH}

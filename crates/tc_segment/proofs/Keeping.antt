@@ -1,16 +1,12 @@
 -- What a lock state keeps through its calls.
-use Rattle.std.proofs.Common.{◌≡◌, ℕ, zero, suc, ◌+◌, ◌-◌, Bool, true, false, List, [], ◌∷◌, ◌++◌, map, set, length, take, drop, refl, sym, ap, subst, ◌∙◌, ◌<◌, ◌≤◌, arith, length-drop, length-append, inl, inr}
-use Rattle.tc_segment.proofs.Vocabulary.{AllFit, AreReplayed, Block, Closes, Entry, Extends, Fits, IsSoundLock, LockView, Mutex, OpenFits, Opened, Opening, Record, Registers, Replays, Shown, closed_with, entries, fresh_state, guard_at, lock_of, more_words, mutex_at_start, noted, opened_at, regs_at, replay_entry, replayed, shown, shown_journal, shown_open, with_closed, with_end, grounds}
-use Rattle.tc_segment.proofs.Vocabulary.{with_journal}
+use Rattle.std.proofs.Common.{◌≡◌, ℕ, zero, suc, ◌+◌, ◌-◌, Bool, true, false, ◌||◌, List, [], ◌∷◌, ◌++◌, map, set, length, take, drop, refl, sym, ap, subst, ◌∙◌, ◌<◌, ◌≤◌, arith, length-drop, length-append, inl, inr}
+use Rattle.tc_segment.proofs.Vocabulary.{AllFit, AreReplayed, Block, Closes, Entry, Extends, Fits, IsSoundLock, LockView, Mutex, OpenFits, Opened, Opening, Record, Registers, Replays, Shown, closed_with, entries, fresh_state, guard_at, lock_of, more_words, mutex_at_start, noted, opened_at, regs_at, replay_entry, replayed, shown, shown_journal, shown_open, with_closed, End, ends_thread, grounds, take_all, drop_all, take-append-le, drop-append-le, slice_get-get_or, slice_get_cases, replay_in, entry_from, strict_as, starting_byte}
+use Rattle.tc_segment.proofs.Vocabulary.{with_journal, take_all, drop_all, take-append-le, drop-append-le, slice_get-get_or, slice_get_cases, replay_in, entry_from, strict_as, starting_byte}
 use Rattle.std.specs.Prelude.{Option, Some, None, option_map, is_some, slice_get, if◌then◌else◌}
 use Rattle.std.proofs.Math.Seq.{get_or-append_seam}
-use Rattle.std.proofs.lemmas.Option.{slice_get-get_or, slice_get_cases}
-use Rattle.std.proofs.lemmas.List.{take_all, drop_all, take-append-le, drop-append-le}
 use Rattle.std.proofs.lemmas.List.FromFn.{length-map-range_with_len}
 use Rattle.tc_isa.specs.declared.limits.TheConstants.{MAX_BATCH}
 use Rattle.tc_elf.specs.Kept.{IsGuard}
-use Rattle.tc_turn.specs.Memory.{starting_byte}
-use Rattle.tc_segment.specs.View.{replay_in, entry_from, strict_as}
 use Rattle.tc_segment.proofs.Packing.{extends_same}
 use Rattle.tc_segment.proofs.Journals.{replayed-more, are_replayed-more}
 
@@ -179,8 +175,12 @@ closed_journal image number limit strict old new sealed edges more words opened 
     let closed = last ∙ entry in
     λ i. record { image = image; limit = limit; strict = strict; sealed = before i; closed = closed i; opened = None; entry_room = er; word_room = wr }
 
-pub sound_closed : (block : Block) (finish : Registers) (l : LockView) (o : Opened) → IsSoundLock l → l.journal.opened ≡ Some o → Closes l block finish o → IsSoundLock (with_end block.end (with_journal (closed_with block finish) l))
-sound_closed block finish l o sound is closes =
+-- the end of a thread breaks a lock that is broken no more
+pub ended_broken : (end : End) (broken : Bool) → (ends_thread end ≡ true → broken ≡ true) → (ends_thread end || broken) ≡ broken
+ended_broken end broken h = (elim (ends_thread end) as (λ b. ends_thread end ≡ b → (b || broken) ≡ broken) [ true ↦ λ e. sym (h e) | false ↦ λ e. refl ]) refl
+
+pub sound_closed : (block : Block) (finish : Registers) (l : LockView) (o : Opened) → IsSoundLock l → l.journal.opened ≡ Some o → (ends_thread block.end ≡ true → l.broken ≡ true) → Closes l block finish o → IsSoundLock (with_journal (closed_with block finish) l)
+sound_closed block finish l o sound is broken closes =
     let j = l.journal in
     let none : j.closed ≡ None = sound.alone (ap (λ x. is_some x) is) in
     let f : Opened → Entry = entry_from block finish in
@@ -196,7 +196,7 @@ sound_closed block finish l o sound is closes =
       replays = subst (λ es. AreReplayed j.image l.number (mutex_at_start j.image l.number) es) (sym new)
           (are_replayed-more j.image l.number (mutex_at_start j.image l.number) j.sealed (f o) (subst (λ es. AreReplayed j.image l.number (mutex_at_start j.image l.number) es) old sound.replays)
           (subst (λ m. Replays j.image l.number (f o) m) (sym before) closes.replays));
-      rest = λ e. sym (ap (replayed j.image l.number (mutex_at_start j.image l.number)) new ∙ replayed-more j.image l.number (mutex_at_start j.image l.number) j.sealed (f o) ∙ ap (replay_entry j.image l.number (f o)) before ∙ closes.lock);
+      rest = λ e. sym (ap (replayed j.image l.number (mutex_at_start j.image l.number)) new ∙ replayed-more j.image l.number (mutex_at_start j.image l.number) j.sealed (f o) ∙ ap (replay_entry j.image l.number (f o)) before ∙ closes.lock ∙ (let b = ended_broken block.end l.broken broken in λ i. record { bytes = l.bytes; broken = b i; sections = l.sections; owner = None }));
       from = λ p e. absurd (cc);
       alone = λ h. absurd (cc);
       obeys = sound.obeys;
@@ -205,9 +205,9 @@ sound_closed block finish l o sound is closes =
 
 -- ---- a new lock state
 
-pub fresh_view : (of image : Shown) (number limit : ℕ) (strict : Bool) (bytes words : List ℕ) (edges : List ℕ) (records : List Record) (room : ℕ) → of ≡ image → bytes ≡ (mutex_at_start image number).bytes → records ≡ [] → room ≡ 0
-    → record { number = number; bytes = bytes; broken = false; sections = 0; journal = shown_journal (grounds of number limit strict edges words) (map (shown edges words) records) 0 None 0 room } ≡ with_journal (strict_as strict) (fresh_state image number limit)
-fresh_view of image number limit strict bytes words edges records room o b r none = λ i. record { number = number; bytes = b i; broken = false; sections = 0; journal = shown_journal (grounds (o i) number limit strict edges words) (map (shown edges words) (r i)) 0 None 0 (none i) }
+pub fresh_view : (of image : Shown) (number limit : ℕ) (strict : Bool) (bytes words : List ℕ) (edges : List ℕ) (records : List Record) (entries room : ℕ) → of ≡ image → bytes ≡ (mutex_at_start image number).bytes → records ≡ [] → entries ≡ 0 → room ≡ 0
+    → record { number = number; bytes = bytes; broken = false; sections = 0; journal = shown_journal (grounds of number limit strict edges words) (map (shown edges words) records) 0 None entries room } ≡ with_journal (strict_as strict) (fresh_state image number limit)
+fresh_view of image number limit strict bytes words edges records entries room o b r er none = λ i. record { number = number; bytes = b i; broken = false; sections = 0; journal = shown_journal (grounds (o i) number limit strict edges words) (map (shown edges words) (r i)) 0 None (er i) (none i) }
 
 pub sound_fresh : (image : Shown) (number limit : ℕ) (strict : Bool) → number < length image.guards → number < 32 → IsGuard image (guard_at image number) → limit ≤ MAX_BATCH → IsSoundLock (with_journal (strict_as strict) (fresh_state image number limit))
 sound_fresh image number limit strict known small guard most = record {

@@ -1,15 +1,11 @@
 -- Registers that are packed, and noted one after another.
 use Rattle.std.proofs.Common.{◌≡◌, ℕ, zero, suc, ◌+◌, ◌-◌, ◌*◌, ◌^◌, ◌/◌, ◌%◌, ◌<◌, ◌≤◌, min, inl, inr, Bool, true, false, ◌==◌, List, [], ◌∷◌, ◌++◌, length, get_or, take, drop, set, refl, ap, sym, subst, ◌∙◌, arith, append_assoc, append-nil, length-append, length-drop, map, not}
-use Rattle.tc_segment.proofs.Vocabulary.{Extends, IsPlace, IsRegisters, Registers, StandsAt, bit_and, mask_of, nonzero, packed, with_register}
+use Rattle.tc_segment.proofs.Vocabulary.{Extends, IsPlace, IsRegisters, Registers, StandsAt, bit_and, mask_of, nonzero, packed, with_register, drop-append-le, get_or-drop, drop-drop, length-take, take-append-drop, take_all, take_more_set, Decides-eqb, cases_lt, spread, regs_at, ArePacked}
 use Rattle.std.specs.Prelude.{slice_index, if◌then◌else◌}
 use Rattle.std.proofs.Math.Nat.{pow-succ'}
 use Rattle.std.specs.Int.Bits.{and_step, and_self}
 use Rattle.std.specs.Int.Count.{count_trailing_zeros, under}
-use Rattle.std.proofs.lemmas.Bool.{cases_lt}
 use Rattle.std.specs.Simd.Lanes.{mask_l}
-use Rattle.std.proofs.lemmas.Bool.Decides.{Decides-eqb}
-use Rattle.std.proofs.lemmas.List.{drop-append-le, get_or-drop, drop-drop, length-take, take-append-drop, take_all, take_more_set}
-use Rattle.tc_segment.specs.Packed.{spread, regs_at, ArePacked}
 
 -- what was packed comes out again, whatever stands behind it
 spread_packed : (xs rest : List ℕ) → spread (length xs) (mask_of xs) (nonzero xs ++ rest) ≡ xs

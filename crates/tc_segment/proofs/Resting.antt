@@ -1,9 +1,7 @@
 -- Lock states at rest.
 use Rattle.std.proofs.Common.{◌≡◌, ◌↔◌, ℕ, true, refl}
-use Rattle.tc_segment.proofs.Vocabulary.{Block, LockView, Shown, Taken, blocks_of, fresh_state, last_of, may_begin, run_of}
+use Rattle.tc_segment.proofs.Vocabulary.{Block, LockView, Shown, Taken, blocks_of, fresh_state, last_of, may_begin, run_of, IsAtRest, kept, ends_section, allows_of}
 use Rattle.std.specs.Prelude.{Option, Some, None, IfSome}
-use Rattle.tc_journal.specs.Batch.{ends_section, allows_of}
-use Rattle.tc_segment.specs.View.{IsAtRest, kept}
 
 pub rests_fresh : (image : Shown) (k limit : ℕ) → IsAtRest image k (fresh_state image k limit)
 rests_fresh image k limit = record { number = refl; of = refl; opened = refl; closed = refl; ended = tt }

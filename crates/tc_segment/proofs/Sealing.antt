@@ -1,18 +1,12 @@
 -- An entry that is sealed.
-use Rattle.std.proofs.Common.{◌≡◌, ℕ, ◌+◌, ◌≤◌, Bool, true, false, ◌&&◌, ◌<◌, List, [], ◌∷◌, ◌++◌, map, set, take, length, refl, sym, ap, subst, ◌∙◌, arith, ◌==◌}
-use Rattle.tc_segment.proofs.Vocabulary.{AreReplayed, Block, Entry, IsSoundLock, IsStrict, LockView, Mutex, Opening, Record, Replays, Shown, Taken, block_in, block_of, blocks_of, entries, last_of, may_begin, mutex_at_start, replayed, run_after, run_of, sealed_as, sealed_block, sealed_entry, sealed_list, shown, shown_journal, shown_open, with_closed, with_journal, grounds}
-use Rattle.std.proofs.lemmas.List.{map-append, length-set, take-map, take_all, take_more_set}
-use Rattle.std.proofs.lemmas.Option.{slice_get_past, slice_get_within}
+use Rattle.std.proofs.Common.{◌≡◌, ℕ, ◌+◌, ◌-◌, ◌≤◌, Bool, true, false, ◌&&◌, ◌<◌, List, [], ◌∷◌, ◌++◌, map, set, take, length, length-append, refl, sym, ap, subst, ◌∙◌, arith, ◌==◌}
+use Rattle.tc_segment.proofs.Vocabulary.{AreReplayed, Block, Closes, Entry, Opened, IsSoundLock, IsStrict, LockView, Mutex, Opening, Record, Replays, Shown, Taken, block_in, block_of, blocks_of, entries, entry_from, finish_in, last_finish, last_of, may_begin, mutex_at_start, replayed, run_after, run_of, sealed_as, sealed_block, sealed_entry, sealed_list, shown, shown_journal, shown_open, with_closed, with_journal, grounds, map-append, length-set, take-map, take_all, take_more_set, slice_get_past, slice_get_within, begins, unlocks, is_only, may_adopt, is_adopted, allows_of, may_follow, Obeys, passes_on, PassesOn, Registers, nat_tests, and_parts, obeys-more, passes-more}
 use Rattle.std.specs.Prelude.{Option, Some, None, option_map, nat_lt, slice_get, if◌then◌else◌}
-use Rattle.std.proofs.lemmas.Bool.Decides.{nat_tests}
-use Rattle.std.proofs.lemmas.Bool.{and_parts}
-use Rattle.tc_journal.proofs.Batching.{obeys-more, passes-more}
 use Rattle.tc_journal.specs.declared.block.Kind.{Kind}
 use Rattle.tc_journal.specs.declared.block.Kind.TheVariants.{Start, On, Adopted, Granted}
 use Rattle.tc_turn.specs.Replay.{replay_entry}
-use Rattle.tc_journal.specs.Batch.{begins, unlocks, is_only, may_adopt, is_adopted, allows_of, may_follow, Obeys, passes_on, PassesOn}
 use Rattle.tc_segment.proofs.Journals.{replayed-more}
-use Rattle.tc_segment.proofs.Keeping.{entries_are}
+use Rattle.tc_segment.proofs.Keeping.{entries_are, last_at}
 
 blocks_all : (edges : List ℕ) (words : List ℕ) (rs : List Record) → map block_in (map (shown edges words) rs) ≡ map block_of rs
 blocks_all edges words [] = refl
@@ -97,3 +91,17 @@ sound_sealed stamp worker l e sound is follows passes =
       obeys = subst (λ bs. Obeys l.number j.limit bs) (sym (ap (map block_in) new ∙ blocks)) (obeys-more l.number j.limit [] (map block_in j.sealed) (sealed_block stamp worker e.block) sound.obeys follows);
       passes = λ h. subst (λ bs. PassesOn l.number bs) (sym (ap (map block_in) new ∙ blocks)) (passes-more l.number [] (map block_in j.sealed) (sealed_block stamp worker e.block) (sound.passes h) (stamped_passes l.number stamp worker (map block_in j.sealed) e.block (passes h)));
     }
+
+-- nor in what closes an entry
+pub closes_sealed : (stamp worker : ℕ) (l : LockView) (b : Block) (finish : Registers) (o : Opened) → Closes l b finish o → Closes l (sealed_block stamp worker b) finish o
+closes_sealed stamp worker l b finish o c = record {
+  replays = replays_sealed l.journal.image l.number stamp worker (entry_from b finish o) o.from c.replays;
+  lock = entry_sealed l.journal.image l.number stamp worker (entry_from b finish o) o.from ∙ c.lock;
+}
+
+-- nor is the last entry another one
+pub sealed_last : (stamp worker : ℕ) (sealed : List Entry) (closed : Option Entry) → last_finish (sealed_list stamp worker sealed closed) None ≡ last_finish sealed closed
+sealed_last stamp worker sealed None = refl
+sealed_last stamp worker sealed (Some e) =
+    let x = sealed_entry stamp worker e in
+    ap (option_map finish_in) (last_at sealed x (length (sealed ++ x ∷ []) - 1) (omega (arith, length-append sealed (x ∷ []))))

@@ -1,7 +1,8 @@
 -- A lock state's fields, as it is seen, and what they keep.
-use Rattle.std.specs.Prelude.{◌≡◌, ℕ, ◌+◌, ◌-◌, ◌*◌, ◌^◌, ◌<◌, ◌≤◌, Bool, List, [], ◌∷◌, map, length, take, drop, slice_get, Vec, vec_len, vec_capacity, Option, Some, None, option_map, Result, OnOk, OnErr}
+use Rattle.std.specs.Prelude.{◌≡◌, ℕ, ◌+◌, ◌-◌, ◌*◌, ◌^◌, ◌<◌, ◌≤◌, Bool, true, false, List, [], ◌∷◌, map, length, take, drop, slice_get, Vec, vec_len, vec_capacity, Option, Some, None, option_map, Result, OnOk, OnErr}
 use Rattle.std.specs.Global.{Global}
 use Rattle.tc_elf.specs.Shown.{Shown, guard_at}
+use Rattle.tc_isa.specs.Registers.{Registers}
 use Rattle.tc_journal.specs.Batch.{run_of}
 use Rattle.tc_journal.specs.declared.block.Block.{Block}
 use Rattle.tc_turn.specs.Turn.{Mutex, mutex_at_start}
@@ -10,9 +11,9 @@ use Rattle.tc_segment.specs.declared.record.Record.{Record}
 use Rattle.tc_segment.specs.declared.record.Opening.{Opening}
 use Rattle.tc_segment.specs.declared.state.Contents.{Contents}
 use Rattle.tc_segment.specs.Edges.{room_in}
-use Rattle.tc_segment.specs.Packed.{IsPlace, regs_at}
+use Rattle.tc_segment.specs.Packed.{IsPlace, StandsAt, regs_at}
 use Rattle.tc_segment.specs.declared.packed.TheConstants.{MOST_WORDS}
-use Rattle.tc_segment.specs.View.{LockView, Journal, Opened, IsSoundLock, blocks_of, sealed_block}
+use Rattle.tc_segment.specs.View.{LockView, Journal, Opened, EndedAt, IsSoundLock, blocks_of, sealed_block}
 
 -- an entry, whose registers and words stand at the record's places
 abbrev pub shown : List ℕ → List ℕ → Record → Entry
@@ -52,13 +53,26 @@ shown_journal g es sealed opened entry_room word_room = record {
   word_room = word_room;
 }
 
+-- the entry that is open, where one is
+abbrev pub open_in : Bool → Opening → Option Opening
+open_in false next = None
+open_in true next = Some next
+
+abbrev pub count : Bool → ℕ
+count false = 0
+count true = 1
+
+-- for how many entries more there is room, beside the open one
+abbrev pub entry_room_in : Contents → ℕ
+entry_room_in a = a.most - vec_len a.records - count a.opened
+
 abbrev pub view_of : Contents → LockView
 view_of a = record {
   number = a.number;
   bytes = a.bytes.items;
   broken = a.broken;
   sections = a.sections;
-  journal = shown_journal (grounds a.of.value a.number a.limit a.strict a.edges.words a.words.items) (map (shown a.edges.words a.words.items) a.records.items) a.sealed a.opened a.entry_room (room_in a.words);
+  journal = shown_journal (grounds a.of.value a.number a.limit a.strict a.edges.words a.words.items) (map (shown a.edges.words a.words.items) a.records.items) a.sealed (open_in a.opened a.next) (entry_room_in a) (room_in a.words);
 }
 
 -- ---- what is kept
@@ -90,19 +104,19 @@ abbrev pub OpenFits : List ℕ → List ℕ → Option Opening → Type 0
 OpenFits edges words None = Unit {0}
 OpenFits edges words (Some o) = IsPlace edges o.start × (o.from ≤ length words)
 
-abbrev pub count : {X : Type 0} → Option X → ℕ
-count None = 0
-count (Some x) = 1
-
 pub record KeptLock (a : Contents) : Type 0 where
   pub sound : IsSoundLock (view_of a)
   pub start : a.start ≡ (guard_at a.of.value a.number).start
   pub records : AllFit a.edges.words a.words.items a.records.items
   pub sealed : a.sealed ≤ length a.records.items
   pub closed : length a.records.items ≤ a.sealed + 1
-  pub opened : OpenFits a.edges.words a.words.items a.opened
+  pub opened : OpenFits a.edges.words a.words.items (open_in a.opened a.next)
+  -- where no entry is open, the next one goes on from the last one's registers and words
+  pub from : a.opened ≡ false → a.next.from ≡ length a.words.items
+  pub ends : a.opened ≡ false → (regs : Registers) → EndedAt regs (view_of a).journal → StandsAt a.edges.words a.next.start regs
   pub run : a.run ≡ run_of a.number (blocks_of (view_of a))
   pub short : a.run ≤ a.limit
-  pub entry_room : vec_len a.records + a.entry_room + count a.opened ≤ vec_capacity a.records
-  pub edge_room : MOST_WORDS * (2 * a.entry_room + count a.opened) ≤ a.edges.room
+  pub entries : vec_len a.records + count a.opened ≤ a.most
+  pub most : a.most ≤ vec_capacity a.records
+  pub edge_room : MOST_WORDS * (2 * entry_room_in a + count a.opened) ≤ a.edges.room
   pub word_places : vec_len a.words < 2 ^ 32

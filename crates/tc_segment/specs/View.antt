@@ -218,6 +218,10 @@ sealed_list stamp worker sealed (Some e) = sealed ++ sealed_entry stamp worker e
 abbrev pub sealed_as : ℕ → ℕ → Journal → Journal
 sealed_as stamp worker j = record j { sealed = sealed_list stamp worker j.sealed j.closed; closed = None }
 
+-- closed with a block that has its stamp and worker, and sealed
+abbrev pub sealed_with : Block → Registers → Journal → Journal
+sealed_with block finish j = sealed_as block.stamp block.worker (closed_with block finish j)
+
 -- the batch rule lets the closed entry's block be sealed with this stamp and worker
 abbrev pub MayFollow : ℕ → ℕ → LockView → Type 0
 MayFollow stamp worker l = (e : Entry) → l.journal.closed ≡ Some e → may_follow l.number l.journal.limit (blocks_of l) (sealed_block stamp worker e.block) ≡ true

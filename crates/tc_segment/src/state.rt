@@ -4,9 +4,9 @@ ghost use Rattle.std.specs.Prelude.{◌≡◌, ◌<◌, [], ◌∷◌, true, fal
 ghost use Rattle.tc_isa.specs.declared.held.TheConstants.Held.{PLACES};
 ghost use Rattle.tc_elf.specs.Places.{in_guard};
 ghost use Rattle.tc_exec.specs.Told.{IsWidth};
-ghost use Rattle.tc_journal.specs.Batch.{run_of};
+ghost use Rattle.tc_journal.specs.Batch.{ends_thread, run_of};
 ghost use Rattle.tc_segment.specs.Lent.{entry_lent};
-ghost use Rattle.tc_segment.specs.View.{CanStart, IsSoundLock, allows_in, passes_in, number_of_guard, ClosesWith, MayFollow, MayPass, lock_of, guard_of, with_store, with_section, with_break, with_end, with_journal, EndedAt, HasRoomFor, opened_at, noted, closed_with, sealed_as, kept, strict_as, blocks_of, entries, fresh_state};
+ghost use Rattle.tc_segment.specs.View.{CanStart, IsSoundLock, allows_in, passes_in, number_of_guard, ClosesWith, MayFollow, MayPass, lock_of, guard_of, with_store, with_section, with_break, with_end, with_journal, EndedAt, HasRoomFor, opened_at, noted, closed_with, sealed_as, sealed_with, kept, strict_as, blocks_of, entries, fresh_state};
 
 use crate::edges::Edges;
 use crate::entry::Entry;
@@ -19,7 +19,7 @@ use std::snapshot::Snapshot;
 use tc_elf::image::Image;
 use tc_isa::regs::Regs;
 use tc_journal::batch::{may_begin, passes_to, run_after};
-use tc_journal::block::{Block, Kind};
+use tc_journal::block::{Block, End, Kind};
 use tc_turn::memory::{put_number, starting_bytes};
 use tc_turn::number::number_from;
 
@@ -38,21 +38,23 @@ struct Contents {
     strict: bool,
     sections: u64,
     run: u32,
-    // Those of all entries, of which so many are sealed.
+    // Those of all entries, of which so many are sealed. There may be so many, before room is made
+    // again.
     records: Vec<Record>,
     sealed: usize,
-    opened: Option<Opening>,
+    most: usize,
+    // Whether an entry is open, and what the open one has, or the next one.
+    opened: bool,
+    next: Opening,
     edges: Edges,
     words: Vec<u32>,
-    // For how many entries more there is room.
-    entry_room: usize,
 }
 
 /// A lock with the bytes of its guard, and the journal of the blocks that ran with it.
 ///
 /// While a block runs, its entry is open: the steps of the block change the lock and note the
 /// values that came from elsewhere. The entry is closed with the block, and sealed once the block
-/// has its stamp and worker.
+/// has its stamp and worker; `close_sealed` does both at once.
 #[derive(Drop)]
 pub struct LockState {
     contents: Box<Contents>,
@@ -121,10 +123,15 @@ impl LockState {
             run: 0,
             records: Vec::new(alloc),
             sealed: 0,
-            opened: None,
+            most: 0,
+            opened: false,
+            next: Opening {
+                fuel: 0,
+                start: 0,
+                from: 0,
+            },
             edges: Edges::new(alloc),
             words: Vec::new(alloc),
-            entry_room: 0,
         };
         Ok(LockState {
             contents: Box::new(alloc, contents)?,
@@ -227,7 +234,8 @@ impl LockState {
     pub fn entry_room(&self) -> usize
         ensures { result ≡ self.now.journal.entry_room }
     {
-        self.contents.entry_room
+        let contents = &*self.contents;
+        contents.most - contents.records.len() - usize::from(contents.opened)
     }
 
     /// For how many foreign words more there is room.
@@ -246,11 +254,11 @@ impl LockState {
         ensures same { kept self.new ≡ kept self.old }
     {
         let contents = &mut *self.contents;
-        // One more beside one that is open, with the registers before and after each.
-        make_records(&mut contents.records, MORE_ENTRIES + 1)?;
-        contents.edges.reserve((2 * MORE_ENTRIES + 1) * MOST_WORDS)?;
+        // With the registers before and after each. One of them may be open.
+        make_records(&mut contents.records, MORE_ENTRIES)?;
+        contents.edges.reserve(2 * MORE_ENTRIES * MOST_WORDS)?;
         make_words(&mut contents.words, turns)?;
-        contents.entry_room = MORE_ENTRIES;
+        contents.most = contents.records.len() + MORE_ENTRIES;
         Ok(())
     }
 
@@ -273,13 +281,9 @@ impl LockState {
         ensures { self.new ≡ with_journal (opened_at (lock_of self.old) start.now fuel) self.old }
     {
         let contents = &mut *self.contents;
-        let start = contents.edges.note(start);
-        contents.opened = Some(Opening {
-            fuel,
-            start,
-            from: contents.words.len() as u32,
-        });
-        contents.entry_room -= 1;
+        contents.next.start = contents.edges.note(start);
+        contents.next.fuel = fuel;
+        contents.opened = true;
     }
 
     /// Like `open_entry`, if the last entry ended with these registers, as it did when the block
@@ -294,11 +298,8 @@ impl LockState {
     {
         let _ = start;
         let contents = &mut *self.contents;
-        let last = contents.records.len() - 1;
-        let start = contents.records[last].finish;
-        let from = contents.words.len() as u32;
-        contents.opened = Some(Opening { fuel, start, from });
-        contents.entry_room -= 1;
+        contents.next.fuel = fuel;
+        contents.opened = true;
     }
 
     /// The little-endian number of 1, 2 or 4 bytes of the guard.
@@ -373,23 +374,42 @@ impl LockState {
             ≡ with_end block.now.end (with_journal (closed_with block.now end.now) self.old) }
     {
         let _ = image;
+        self.break_at(block.end);
+        self.close(block, end);
+    }
+
+    /// Breaks the lock where a block with this end ended its thread.
+    fn break_at(&mut self, end: End)
+        requires { is_some self.old.journal.opened ≡ true }
+        ensures { self.new ≡ with_end end self.old }
+    {
+        if end.ends_thread() {
+            self.contents.broken = true;
+        }
+    }
+
+    /// Closes the open entry of a lock that is as the block's end leaves it.
+    fn close(&mut self, block: &Block, end: &Packed)
+        requires opened { is_some self.old.journal.opened ≡ true }
+        requires ended { ends_thread block.now.end ≡ true → self.old.broken ≡ true }
+        requires closes { ClosesWith block.now end.now self.old }
+        ensures { self.new ≡ with_journal (closed_with block.now end.now) self.old }
+    {
         let contents = &mut *self.contents;
-        let broken = block.end.ends_thread() || contents.broken;
-        let Some(opening) = contents.opened else {
-            return;
-        };
         let finish = contents.edges.note(end);
+        let to = contents.words.len() as u32;
         let record = Record {
             block: *block,
-            fuel: opening.fuel,
-            start: opening.start,
+            fuel: contents.next.fuel,
+            start: contents.next.start,
             finish,
-            from: opening.from,
-            to: contents.words.len() as u32,
+            from: contents.next.from,
+            to,
         };
         contents.records.push_reserved(record);
-        contents.opened = None;
-        contents.broken = broken;
+        contents.next.start = finish;
+        contents.next.from = to;
+        contents.opened = false;
     }
 
     /// Seals the closed entry: its block gets this stamp and worker.
@@ -404,5 +424,19 @@ impl LockState {
         record.stamp(stamp, worker);
         contents.run = run_after(contents.number, contents.run, &record.block);
         contents.sealed += 1;
+    }
+    /// Closes the open entry with a block that has its stamp and worker, and seals it. The lock is as the
+    /// block's end leaves it.
+    pub fn close_sealed(&mut self, block: &Block, end: &Packed)
+        requires opened { is_some self.old.journal.opened ≡ true }
+        requires ended { ends_thread block.now.end ≡ true → self.old.broken ≡ true }
+        requires closes { ClosesWith block.now end.now self.old }
+        requires follows { MayFollow block.now.stamp block.now.worker
+            (with_journal (closed_with block.now end.now) self.old) }
+        requires passes { MayPass (with_journal (closed_with block.now end.now) self.old) }
+        ensures { self.new ≡ with_journal (sealed_with block.now end.now) self.old }
+    {
+        self.close(block, end);
+        self.seal(block.stamp, block.worker);
     }
 }

@@ -1,20 +1,10 @@
 -- A thread's own memory, kept in parts, is a map from addresses to bytes.
 use Rattle.std.proofs.Common.{◌≡◌, ◌≢◌, ℕ, zero, suc, ◌+◌, ◌-◌, ◌/◌, ◌%◌, ◌<◌, ◌≤◌, ◌==◌, Bool, true, false, All, List, [], ◌∷◌, ◌++◌, length, map, set, get_or, replicate, refl, sym, ap, subst, ◌∙◌, arith, inl, inr}
 use Rattle.std.specs.Prelude.{if◌then◌else◌, nat_le, slice_get, Option, Some, None, unwrap_or}
-use Rattle.std.specs.List.{list_any}
-use Rattle.std.specs.Option.{option_map, option_or}
-use Rattle.std.proofs.lemmas.Bool.Decides.{eqb_tells, leb_tells, nat_tests}
-use Rattle.std.proofs.lemmas.Option.{slice_get-get_or}
-use Rattle.std.proofs.lemmas.List.{get_or-replicate, length-replicate, ext_get_or}
+use Rattle.tc_turn.proofs.Vocabulary.{eqb_tells, leb_tells, nat_tests, slice_get-get_or, get_or-replicate, length-replicate, ext_get_or, Shown, lies_in, in_writable, touches, byte_of, own_region, stack_start, stack_length, with_byte, with_number, byte_from, put_byte, part_with, Part, own_of, own_bytes, starting_byte, starting_bytes, own_at_start, Region, option_map, option_or, no_part, with_piece, AreApart, list_any, length-map-range_with_len, get_or-map-range_with_len}
 use Rattle.std.proofs.lemmas.List.Elements.{All-push}
 use Rattle.std.proofs.lemmas.List.Quantifiers.{all_pairs_push}
-use Rattle.std.proofs.lemmas.List.FromFn.{length-map-range_with_len, get_or-map-range_with_len}
-use Rattle.tc_elf.specs.Shown.{Shown}
-use Rattle.tc_elf.specs.declared.image.Region.{Region}
 use Rattle.tc_elf.specs.declared.image.Region.TheVariants as region
-use Rattle.tc_elf.specs.Places.{lies_in, in_writable, touches, byte_of, own_region, stack_start, stack_length}
-use Rattle.tc_turn.specs.Memory.{with_byte, with_number, byte_from, put_byte, part_with, Part, own_of, own_bytes, starting_byte, starting_bytes, own_at_start}
-use Rattle.tc_turn.specs.Parts.{no_part, with_piece, AreApart}
 use Rattle.tc_turn.proofs.PartLaws.{byte_away, none_has, or_none}
 
 -- ---- one byte in a list of bytes

@@ -1,13 +1,8 @@
 -- Numbers of bytes that stand in a row.
 use Rattle.std.proofs.Common.{◌≡◌, ℕ, zero, suc, ◌+◌, ◌-◌, ◌*◌, ◌<◌, ◌≤◌, true, List, drop, get_or, refl, sym, ap, ◌∙◌, arith}
 use Rattle.std.specs.Prelude.{if◌then◌else◌, nat_le, slice_get, Some, None, unwrap_or}
-use Rattle.std.proofs.lemmas.Bool.Decides.{nat_tests}
-use Rattle.std.proofs.lemmas.Option.{unwrap_or-slice_get}
-use Rattle.std.proofs.lemmas.List.{get_or-drop}
+use Rattle.tc_turn.proofs.Vocabulary.{nat_tests, unwrap_or-slice_get, get_or-drop, Shown, byte_of, number_at, byte_from, starting_byte}
 use Rattle.byteorder.specs.Endian.{little_from}
-use Rattle.tc_elf.specs.Shown.{Shown}
-use Rattle.tc_elf.specs.Places.{byte_of}
-use Rattle.tc_turn.specs.Memory.{number_at, byte_from, starting_byte}
 
 pub number_same : (f g : ℕ → ℕ) (addr n : ℕ) → ((at : ℕ) → addr ≤ at → at < addr + n → f at ≡ g at) → number_at f addr n ≡ number_at g addr n
 number_same f g addr zero same = refl

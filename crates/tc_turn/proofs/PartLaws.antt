@@ -2,13 +2,7 @@
 use Rattle.std.proofs.Common.{◌≡◌, ◌≢◌, ◌⊎◌, ℕ, zero, suc, ◌+◌, ◌-◌, ◌/◌, ◌%◌, ◌<◌, ◌≤◌, true, List, [], ◌∷◌, length, map, set, refl, sym, ap, ◌∙◌, arith, inl, inr}
 use Rattle.std.specs.Prelude.{Option, Some, None, Vec, unwrap_or}
 use Rattle.std.specs.Vec.{with_items}
-use Rattle.std.specs.Option.{option_or}
-use Rattle.std.proofs.lemmas.Bool.{and_parts}
-use Rattle.std.proofs.lemmas.Bool.Decides.{leb_tells, nat_tests}
-use Rattle.std.proofs.lemmas.Option.{slice_get_past}
-use Rattle.std.proofs.lemmas.List.{length-set, length-map, set_past, get_or-map, with_items_is}
-use Rattle.tc_turn.specs.Memory.{Part, number_at, byte_from, put_byte, put_number, part_with, own_of}
-use Rattle.tc_turn.specs.Parts.{no_part, part_at, part_has, AreApart}
+use Rattle.tc_turn.proofs.Vocabulary.{leb_tells, nat_tests, slice_get_past, length-set, length-map, set_past, get_or-map, with_items_is, Part, number_at, byte_from, put_byte, put_number, part_with, own_of, and_parts, option_or, no_part, part_at, part_has, AreApart}
 use Rattle.tc_turn.proofs.Numbers.{number_same}
 
 -- ---- parts that have none of some addresses

@@ -1,27 +1,14 @@
 -- A turn reads its thread and the locks that it holds or takes, and leaves the others alone.
 use Rattle.std.proofs.Common.{◌≡◌, ◌≢◌, ◌⊎◌, ℕ, ◌<◌, Bool, true, false, length, ◌==◌, refl, sym, ap, ◌∙◌, arith, inl, inr}
 use Rattle.std.specs.Prelude.{if◌then◌else◌, unwrap_or, Option, Some, None}
-use Rattle.std.proofs.lemmas.Bool.Decides.{eqb_tells, nat_tests}
-use Rattle.std.proofs.lemmas.Bool.{false_from_ne_true}
-use Rattle.tc_isa.specs.Registers.{Registers}
-use Rattle.tc_isa.specs.declared.limits.TheConstants.{MAX_TURNS}
-use Rattle.tc_elf.specs.Shown.{Shown, guard_at}
-use Rattle.tc_elf.specs.declared.image.Region.{Region}
+use Rattle.tc_turn.proofs.Vocabulary.{eqb_tells, nat_tests, Shown, guard_at, number_at, byte_from, false_from_ne_true, Registers, MAX_TURNS, Region, answered, wants_of, act_of, Act, Want, guard_is_held, put_is_held, unlock_is_held, lock_is_free, lock_wants_nothing, Thread, Mutex, taken_by, next_lock, byte_at, lock_answer, answer_to, act_with, next_act, outcome_of, thread_after, mutex_after, guard_with, when, with_own, Covers}
 use Rattle.tc_elf.specs.declared.image.Region.TheVariants as region
-use Rattle.tc_exec.specs.Calls.{answered}
-use Rattle.tc_exec.specs.Step.{wants_of, act_of}
-use Rattle.tc_exec.specs.declared.outcome.Act.{Act}
 use Rattle.tc_exec.specs.declared.outcome.Act.TheVariants.{Next, Called, Faulted}
 use Rattle.tc_exec.specs.declared.outcome.Call.TheVariants.{Lock, Unlock, Sleep, Exit}
 use Rattle.tc_exec.specs.declared.outcome.Put.{Put}
-use Rattle.tc_exec.specs.declared.outcome.Want.{Want}
 use Rattle.tc_exec.specs.declared.outcome.Want.TheVariants as want
-use Rattle.tc_exec.proofs.Laws.{guard_is_held, put_is_held, unlock_is_held, lock_is_free, lock_wants_nothing}
 use Rattle.tc_journal.specs.Rule.{end_rule}
 use Rattle.tc_journal.specs.declared.rule.Outcome.TheVariants as outcome
-use Rattle.tc_turn.specs.Memory.{number_at, byte_from}
-use Rattle.tc_turn.specs.Turn.{Thread, Mutex, taken_by, next_lock, byte_at, lock_answer, answer_to, act_with, next_act, outcome_of, thread_after, mutex_after, guard_with, when, with_own}
-use Rattle.tc_turn.specs.Reads.{Covers}
 
 -- ---- the lock that the next turn takes
 

@@ -1,12 +1,7 @@
 -- The foreign words of a block's turns.
 use Rattle.std.proofs.Common.{◌≡◌, ℕ, zero, suc, ◌+◌, ◌≤◌, Bool, true, false, ◌==◌, [], ◌∷◌, ◌++◌, length, sym, ap, ◌∙◌, arith, append-nil, append_assoc, length-append}
 use Rattle.std.specs.Prelude.{if◌then◌else◌, Option}
-use Rattle.tc_elf.specs.Shown.{Shown}
-use Rattle.tc_exec.specs.Step.{wants_of}
-use Rattle.tc_exec.proofs.Laws.{guard_is_held}
-use Rattle.tc_exec.specs.declared.outcome.Want.{Want}
-use Rattle.tc_turn.specs.Turn.{Thread, Mutex, next_lock, answer_to}
-use Rattle.tc_turn.specs.Reads.{Covers}
+use Rattle.tc_turn.proofs.Vocabulary.{Shown, wants_of, Want, guard_is_held, Thread, Mutex, next_lock, answer_to, Covers}
 use Rattle.tc_turn.specs.Replay.{takes_word, word_of, words_from}
 use Rattle.tc_turn.proofs.Turns.{answer_same}
 

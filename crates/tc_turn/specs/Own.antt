@@ -1,5 +1,5 @@
--- Steps one at a time, each done in a loop.
-use Rattle.std.specs.Prelude.{◌≡◌, ℕ, ◌+◌, ◌-◌, ◌*◌, ◌%◌, ◌^◌, ◌<◌, List, [], None, unwrap_or}
+-- What an instruction does in a loop over steps, and what the load or the store does that it tells of.
+use Rattle.std.specs.Prelude.{◌≡◌, ℕ, ◌+◌, ◌*◌, ◌%◌, ◌^◌, None, unwrap_or}
 use Rattle.tc_isa.specs.Registers.{with_register}
 use Rattle.tc_isa.specs.Sets.{has}
 use Rattle.tc_isa.specs.declared.instr.LoadKind.{LoadKind}
@@ -11,12 +11,11 @@ use Rattle.tc_exec.specs.Step.{act_of, wants_of}
 use Rattle.tc_exec.specs.Touch.{IsTouched}
 use Rattle.tc_exec.specs.declared.execute.Effect.{Effect}
 use Rattle.tc_exec.specs.declared.execute.Effect.TheVariants as effect
+use Rattle.tc_exec.specs.declared.outcome.Act.TheVariants.{Next}
 use Rattle.tc_exec.specs.declared.outcome.Want.TheVariants.{Nothing}
 use Rattle.tc_exec.specs.declared.touch.Touched.TheVariants as touched
-use Rattle.tc_journal.specs.declared.rule.Outcome.TheVariants.{Went}
-use Rattle.tc_turn.specs.Turn.{Thread, Mutex, Guest, thread_of, next_lock, next_act, outcome_of, thread_after, mutex_after}
+use Rattle.tc_turn.specs.Turn.{Thread, Guest, thread_of}
 use Rattle.tc_turn.specs.Memory.{number_at, with_number}
-use Rattle.tc_turn.specs.Replay.{word_of}
 use Rattle.tc_turn.specs.declared.own_turns.Loaded.{Loaded}
 use Rattle.tc_turn.specs.declared.own_turns.Loaded.TheVariants as loads
 use Rattle.tc_turn.specs.declared.own_turns.Stored.{Stored}
@@ -26,42 +25,19 @@ use Rattle.tc_turn.specs.declared.own_turns.Stored.TheVariants as stores
 abbrev pub own_number : Thread → ℕ → ℕ → ℕ
 own_number d addr width = number_at (λ at. unwrap_or (d.own at) 0) addr width
 
--- the thread at the next word, after it loaded from its own memory into a register
-abbrev pub loaded : LoadKind → ℕ → ℕ → Thread → Thread
-loaded kind rd addr d =
-    let number = own_number d addr (load_width kind) in
-    record { regs = at_next (with_register d.regs rd (extended kind number)); own = d.own; fuel = d.fuel; status = d.status; held = d.held }
-
--- after it stored the low bytes of a value in its own memory
+-- the thread at the next word, after it stored the low bytes of a value in its own memory
 abbrev pub stored : StoreKind → ℕ → ℕ → Thread → Thread
 stored kind addr value d =
     let width = store_width kind in
     record { regs = at_next d.regs; own = with_number d.own addr width (value % 2 ^ (8 * width)); fuel = d.fuel; status = d.status; held = d.held }
 
--- with so much fuel
-abbrev pub fuelled : ℕ → Thread → Thread
-fuelled n d = record { regs = d.regs; own = d.own; fuel = n; status = d.status; held = d.held }
-
--- with one unit of fuel less
-abbrev pub spent : Thread → Thread
-spent d = fuelled (d.fuel - 1) d
-
--- the next turn goes on and leads to the same whatever the locks are; it takes and releases none, changes none, and gives the
--- journal of each these words
-pub record IsOwnTurn (image : Shown) (ws : List ℕ) (d next : Thread) : Type 0 where
-  pub after : (locks : ℕ → Mutex) → thread_after d (next_act image d locks) ≡ next
-  pub went : (locks : ℕ → Mutex) → outcome_of (next_act image d locks) ≡ Went
-  pub alone : (locks : ℕ → Mutex) (t k : ℕ) (l : Mutex) → mutex_after image t d.held (next_act image d locks) k l ≡ l
-  pub none : next_lock image d ≡ None
-  pub held : next.held ≡ d.held
-  pub words : (locks : ℕ → Mutex) (k : ℕ) → word_of image k d locks ≡ ws
-
 -- ---- what an instruction does
 
--- such a turn, whatever fuel there is, all but what it takes of the fuel
-pub record IsOwnStep (image : Shown) (ws : List ℕ) (old new : Guest) : Type 0 where
-  pub turn : (left : ℕ) → 0 < left → IsOwnTurn image ws (fuelled left (thread_of old)) (spent (fuelled left (thread_of new)))
-  pub fuel : new.fuel ≡ old.fuel
+-- the next turn is of registers alone, and they have it
+pub record IsPlain (image : Shown) (old new : Guest) : Type 0 where
+  pub act : (answer : ℕ) → act_of image (has old.held) old.regs answer ≡ Next new.regs None
+  pub want : wants_of image (has old.held) old.regs ≡ Nothing
+  pub rest : new ≡ record old { regs = new.regs }
 
 -- the thread is at the next word
 abbrev pub IsOnward : Guest → Guest → Type 0
@@ -79,8 +55,8 @@ pub record IsStore (image : Shown) (g : Guest) (kind : StoreKind) (addr value : 
 
 -- an instruction of this effect was done, but for a load or a store, which is told
 abbrev pub HasExecuted : Shown → Guest → Guest → Effect → Type 0
-HasExecuted image old new effect.Went = IsOwnStep image [] old new × IsOnward old new
-HasExecuted image old new effect.Jumped = IsOwnStep image [] old new
+HasExecuted image old new effect.Went = IsPlain image old new × IsOnward old new
+HasExecuted image old new effect.Jumped = IsPlain image old new
 HasExecuted image old new (effect.Load kind rd addr) = (new ≡ old) × IsLoad image old kind rd addr
 HasExecuted image old new (effect.Store kind addr value) = (new ≡ old) × IsStore image old kind addr value
 HasExecuted image old new effect.Call = new ≡ old
@@ -92,7 +68,7 @@ HasExecuted image old new (effect.Fault f) = new ≡ old
 pub record IsOwnLoad (image : Shown) (kind : LoadKind) (rd addr : ℕ) (old new : Guest) (n : ℕ) : Type 0 where
   pub own : IsTouched image (has old.held) addr (load_width kind) touched.Own
   pub number : n ≡ own_number (thread_of old) addr (load_width kind)
-  pub after : thread_of new ≡ loaded kind rd addr (thread_of old)
+  pub after : new ≡ record old { regs = at_next (with_register old.regs rd (extended kind n)) }
 
 -- so many bytes are of a guard, and nothing was done yet
 pub record IsGuardLoad (image : Shown) (kind : LoadKind) (addr : ℕ) (old new : Guest) (lock bytes : ℕ) : Type 0 where

@@ -1,8 +1,7 @@
 use Rattle.std.proofs.Common.{◌≡◌, ℕ, ◌+◌, ◌-◌, ◌^◌, ◌<◌, ◌≤◌, ◌∷◌, ◌++◌, List, length, take, drop, set, sym, ap, subst, ◌∙◌, arith, append-nil, length-drop, length-set, w32}
-use Rattle.tc_segment.proofs.Vocabulary.{IsRegisters, Registers, bit_and, mask_of, nonzero, packed}
+use Rattle.tc_segment.proofs.Vocabulary.{IsRegisters, Registers, bit_and, mask_of, nonzero, packed, length-set, get_or-drop}
 use Rattle.std.specs.Prelude.{slice_index}
 use Rattle.std.specs.Int.{trailing_zeros}
-use Rattle.std.proofs.lemmas.List.{length-set, get_or-drop}
 use Rattle.std.proofs.lemmas.Nat.{and_le_r}
 use Rattle.tc_segment.proofs.Packing.{mask_less, picked, picked_all, picked_none, FirstPicked, first_picked, next_fits, stored, two_front}
 use Rattle.tc_segment.proofs.packed.pack.Goals as goal

@@ -1,7 +1,5 @@
 use Rattle.std.proofs.Common.{◌≡◌, ◌+◌, ◌-◌, ◌/◌, ◌<◌, suc, ◌∷◌, ◌++◌, length, take, set, drop, sym, ap, ◌∙◌, arith}
-use Rattle.tc_segment.proofs.Vocabulary.{Registers, spread, with_register}
-use Rattle.std.proofs.lemmas.List.{length-set}
-use Rattle.tc_segment.specs.Packed.{regs_at}
+use Rattle.tc_segment.proofs.Vocabulary.{Registers, spread, with_register, length-set, regs_at}
 use Rattle.tc_segment.proofs.Packing.{spread_some, spread_none, stored, put_words, all_stored}
 use Rattle.tc_segment.proofs.packed.unpack.Goals as goal
 use Rattle.tc_segment.proofs.packed.unpack.Goals.{then-mask-eq1, else-mask-eq1}

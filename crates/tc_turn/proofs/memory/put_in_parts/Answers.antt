@@ -1,6 +1,6 @@
 use Rattle.std.proofs.Common.{◌∙◌, ap, sym, set, arith}
 use Rattle.std.proofs.lemmas.List.Edits.{map_over_more}
-use Rattle.tc_turn.specs.Memory.{Part, part_with, put_number}
+use Rattle.tc_turn.proofs.Vocabulary.{Part, part_with, put_number}
 use Rattle.tc_turn.proofs.PartLaws.{part_written}
 use Rattle.tc_turn.proofs.memory.put_in_parts.Goals as goal
 

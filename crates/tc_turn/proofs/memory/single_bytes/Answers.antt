@@ -1,7 +1,6 @@
 use Rattle.std.proofs.Common.{◌+◌, ap, ◌∙◌, sym, ◌++◌, ◌∷◌, [], refl}
-use Rattle.std.proofs.lemmas.List.FromFn.{map-range_with_len_more}
+use Rattle.tc_turn.proofs.Vocabulary.{starting_byte, starting_bytes, map-range_with_len_more}
 use Rattle.std.specs.Prelude.{unwrap_or}
-use Rattle.tc_turn.specs.Memory.{starting_byte, starting_bytes}
 use Rattle.tc_turn.proofs.memory.single_bytes.Goals as goal
 
 pub loop-i-preserved : goal.loop-i-preserved

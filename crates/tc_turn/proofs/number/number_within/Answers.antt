@@ -1,6 +1,5 @@
 use Rattle.std.proofs.Common.{◌∙◌, ◌-◌, ◌≤◌, arith}
-use Rattle.std.proofs.lemmas.Bool.{and_parts}
-use Rattle.std.proofs.lemmas.Bool.Decides.{nat_tests}
+use Rattle.tc_turn.proofs.Vocabulary.{nat_tests, and_parts}
 use Rattle.tc_turn.proofs.Numbers.{number_there}
 use Rattle.tc_turn.proofs.number.number_within.Goals as goal
 

@@ -1,7 +1,5 @@
 use Rattle.std.proofs.Common.{◌≡◌, suc, ◌-◌, refl, ap, subst, ◌∙◌, arith}
-use Rattle.tc_isa.specs.Registers.{Registers}
-use Rattle.tc_context.proofs.Vocabulary.{has, GoesOn}
-use Rattle.tc_context.specs.Run.{MayRun, IsGone, HasGone, fuelled}
+use Rattle.tc_context.proofs.Vocabulary.{has, GoesOn, Registers, MayRun, IsGone, HasGone, fuelled}
 use Rattle.tc_context.proofs.Stepping.{run_more, may_less, may_gone}
 use Rattle.tc_context.proofs.context.Context.run_stretch.Goals as goal
 use Rattle.tc_context.proofs.context.Context.run_stretch.Goals.{in-Next, in-Jumps}

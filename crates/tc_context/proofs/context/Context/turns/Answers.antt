@@ -1,7 +1,5 @@
 use Rattle.std.proofs.Common.{◌+◌, ◌≤◌, ◌∙◌, ap, sym, subst, arith, refl}
-use Rattle.tc_context.proofs.Vocabulary.{has, MAX_TURNS}
-use Rattle.tc_journal.specs.Rule.{end_rule}
-use Rattle.tc_context.specs.Block.{DidTurns}
+use Rattle.tc_context.proofs.Vocabulary.{has, MAX_TURNS, DidTurns, end_rule}
 use Rattle.tc_context.proofs.Partway.{partway_start, went_lock, on_first, on_run, on_may, on_ends, on_goes, may_here, told_ends, told_on}
 use Rattle.tc_context.proofs.context.Context.turns.Goals as goal
 use Rattle.tc_context.proofs.context.Context.turns.Goals.{in-Some, in_default}

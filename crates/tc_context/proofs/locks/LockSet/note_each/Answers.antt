@@ -1,6 +1,5 @@
 use Rattle.std.proofs.Common.{[], ◌∷◌, ◌&&◌, ap, sym}
-use Rattle.tc_turn.specs.Replay.{takes_word}
-use Rattle.tc_context.proofs.Vocabulary.{LockView, has, noted, noted_in, when_in, with_journal}
+use Rattle.tc_context.proofs.Vocabulary.{LockView, has, noted, noted_in, when_in, with_journal, takes_word}
 use Rattle.tc_context.proofs.LockList.{walked_on}
 use Rattle.tc_context.proofs.locks.LockSet.note_each.Goals as goal
 

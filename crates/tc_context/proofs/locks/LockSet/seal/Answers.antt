@@ -1,7 +1,6 @@
-use Rattle.std.proofs.Common.{arith}
-use Rattle.tc_context.proofs.Vocabulary.{has, CanSeal, sealed_in}
-use Rattle.tc_context.proofs.LockList.{next_here}
+use Rattle.std.proofs.Common.{sym, subst}
+use Rattle.tc_context.proofs.Vocabulary.{has, CanSeal, EachHeld}
 use Rattle.tc_context.proofs.locks.LockSet.seal.Goals as goal
 
-pub seal_one-requires : goal.seal_one-requires
-seal_one-requires c = next_here (has c.args.held) (has c.loop-lock.left) (sealed_in (has c.args.held) c.args.stamp c.args.worker) (CanSeal c.args.stamp c.args.worker) c.in-Some.lock c.args.self.now c.loop-lock.self (let h = c.in-Some.ensures.bound in let v = c.in-Some.ensures.value in omega (arith, h)) c.in-Some.ensures.value.0 c.loop-lock.invariant c.requires
+pub seal_each-requires : goal.seal_each-requires
+seal_each-requires c = subst (λ r. EachHeld (has c.args.block.now.held) (CanSeal c.args.block.now r) c.args.self.now) (sym c.set.ensures) c.requires

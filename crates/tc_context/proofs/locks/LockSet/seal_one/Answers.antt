@@ -3,8 +3,8 @@ use Rattle.tc_context.proofs.Vocabulary.{lock_in}
 use Rattle.tc_context.proofs.LockList.{place_is}
 use Rattle.tc_context.proofs.locks.LockSet.seal_one.Goals as goal
 
-pub seal-requires : goal.seal-requires
-seal-requires c =
+pub close_sealed-requires : goal.close_sealed-requires
+close_sealed-requires c =
     let found = ap (λ s. lock_in s c.args.lock) (sym c.self.view_is) ∙ place_is c.self.inside.places.items c.args.lock c.index_mut.result.now (omega (arith, c.requires.place, c.self.invariant)) c.index_mut.ensures.value ∙ c.in-Some.is in
     let can = c.requires.lock c.in-Some.state found in
-    record { closed = can.closed; follows = can.follows; passes = can.passes }
+    record { opened = can.opened; ended = can.ended; closes = can.closes; follows = can.follows; passes = can.passes }

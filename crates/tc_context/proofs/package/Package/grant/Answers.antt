@@ -1,26 +1,34 @@
-use Rattle.std.proofs.Common.{◌≡◌, ◌==◌, ◌∙◌, ap, sym, subst, set, arith, Some, slice_index_or, if◌then◌else◌}
-use Rattle.tc_context.proofs.Vocabulary.{Gives, IsAtRest, PackageView, IsSoundPackage, IsWaiting, MayPassTo, number_in, view_of}
-use Rattle.tc_mutex_spec.proofs.ListLaws.{get_or-set}
+use Rattle.std.proofs.Common.{◌≡◌, ◌==◌, ◌∙◌, ap, sym, subst, set, arith, Some, None, slice_index_or, if◌then◌else◌}
+use Rattle.tc_context.proofs.Vocabulary.{AreEnded, Gives, IsAtRest, PackageView, IsSoundPackage, IsWaiting, MayPassTo, lock_in, locks_with, number_in, view_of, view_with, with_grant, get_or-set}
+use Rattle.tc_context.proofs.LockList.{with_locks}
 use Rattle.tc_context.proofs.Ended.{ended_placed}
-use Rattle.tc_context.proofs.Staging.{shows, granted_sound, set_with, wanted}
+use Rattle.tc_context.proofs.Staging.{rests, shows, granted_sound, set_with, wanted}
 use Rattle.tc_context.proofs.Rooms.{gives_placed}
 use Rattle.tc_context.proofs.package.Package.grant.Goals as goal
 
 pub invariant_of-self : goal.invariant_of-self
 invariant_of-self c =
     let s = shows c.deref_mut-contents.ensures.value c.self.view_is c.self.invariant in
-    let p = view_of c.deref_mut-contents.result.now in
+    let r = rests s c.requires.waiting.pending in
+    let p = view_with None c.deref_mut-contents.result.now in
     let n = c.number.ensures.is in
-    let waiting = subst (λ v. IsWaiting v c.args.lock.number) (sym s.is) c.requires.waiting in
+    let waiting = subst (λ v. IsWaiting v c.args.lock.number) (sym r.is) c.requires.waiting in
     record {
-      sound = subst IsSoundPackage (λ i. record p {
-        context = record { thread = p.context.thread; guest = p.context.guest; locks = sym c.put_in.ensures.is i };
+      sound = subst (λ o. IsSoundPackage (record p {
+        context = with_locks p.context (locks_with o p.context.guest.regs c.put_in.new.self);
+        granted = Some (record { lock = c.number.result; kind = c.args.kind });
+        pending = o;
+        numbers = set p.numbers c.number.result c.args.number;
+      })) (sym r.none) (subst IsSoundPackage (λ i. record p {
+        context = with_locks p.context (sym c.put_in.ensures.is i);
         granted = Some (record { lock = sym n i; kind = c.args.kind });
         numbers = set p.numbers (sym n i) c.args.number;
-      }) (granted_sound p c.args.lock c.args.kind c.args.number s.kept.sound waiting
-          (subst (λ (v : PackageView). IsAtRest v.image c.args.lock.number c.args.lock) (sym s.is) c.requires.rest) c.requires.kind (subst (λ (v : PackageView). MayPassTo c.args.lock c.args.kind v.context.thread) (sym s.is) c.requires.passes) c.requires.number);
+      }) (granted_sound p c.args.lock c.args.kind c.args.number r.sound waiting
+          (subst (λ (v : PackageView). IsAtRest v.image c.args.lock.number c.args.lock) (sym r.is) c.requires.rest) c.requires.kind (subst (λ (v : PackageView). MayPassTo c.args.lock c.args.kind v.context.thread) (sym r.is) c.requires.passes) c.requires.number));
       code = s.kept.code;
-      ended = ended_placed p.context _ c.args.lock.number (Some c.args.lock) c.put_in.ensures.locks (wanted p s.kept.sound c.args.lock.number waiting.want).free s.kept.ended;
+      ended = subst (λ o. AreEnded (with_locks p.context (locks_with o p.context.guest.regs c.put_in.new.self))) (sym r.none)
+          (ended_placed p.context _ c.args.lock.number (Some c.args.lock) c.put_in.ensures.locks (wanted p r.sound c.args.lock.number waiting.want).free r.ended);
+      unsealed = λ b is. absurd (let f : None ≡ Some b = sym r.none ∙ is in cc);
       edge = s.kept.edge;
       next = s.kept.next;
       present = set_with c.args.lock.number _ c.args.lock p.context.locks _ c.deref_mut-contents.result.now.present _ n c.put_in.ensures.locks c.plus-contents.ensures.each s.kept.present;
@@ -29,6 +37,29 @@ invariant_of-self c =
       room = gives_placed c.args.lock.number (Some c.args.lock) p.context.locks _ _ _ c.put_in.ensures.locks c.with-contents.ensures.rest (λ l is. subst (Gives _) (let e : c.args.lock ≡ l = cc in e) c.with-contents.ensures.lock) s.kept.room;
       own = s.kept.own;
     }
+
+pub returns-clause-is : goal.returns-clause-is
+returns-clause-is c =
+    let s = shows c.deref_mut-contents.ensures.value c.self.view_is c.self.invariant in
+    let r = rests s c.requires.waiting.pending in
+    let p = view_with None c.deref_mut-contents.result.now in
+    let n = c.number.ensures.is in
+    ap (λ o. record p {
+      context = with_locks p.context (locks_with o p.context.guest.regs c.put_in.new.self);
+      granted = Some (record { lock = c.number.result; kind = c.args.kind });
+      pending = o;
+      numbers = set p.numbers c.number.result c.args.number;
+    }) r.none
+    ∙ (λ i. record p { context = with_locks p.context (c.put_in.ensures.is i); granted = Some (record { lock = n i; kind = c.args.kind }); numbers = set p.numbers (n i) c.args.number })
+    ∙ ap (with_grant c.args.lock c.args.kind c.args.number) r.is
+
+pub returns-clause-locks : goal.returns-clause-locks
+returns-clause-locks c =
+    let s = shows c.deref_mut-contents.ensures.value c.self.view_is c.self.invariant in
+    let r = rests s c.requires.waiting.pending in
+    let regs = c.deref_mut-contents.result.now.context.guest.regs in
+    λ k. ap (λ o. lock_in (locks_with o regs c.put_in.new.self) k) r.none ∙ c.put_in.ensures.locks k
+    ∙ ap (λ (v : PackageView). if k == c.args.lock.number then Some c.args.lock else lock_in v.context.locks k) r.is
 
 pub returns-clause-numbers : goal.returns-clause-numbers
 returns-clause-numbers c =

@@ -17,5 +17,6 @@ invariant_of-self c =
       pending = s.kept.pending;
       log = s.kept.log;
       room = s.kept.room;
+      unsealed = s.kept.unsealed;
       own = s.kept.own;
     }

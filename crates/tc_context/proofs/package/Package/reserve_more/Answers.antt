@@ -1,28 +1,35 @@
-use Rattle.std.proofs.Common.{◌≡◌, ◌-◌, List, refl, arith, ap, subst, sym, ◌∙◌, is_some}
+use Rattle.std.proofs.Common.{◌≡◌, ◌-◌, ◌<◌, List, [], None, refl, arith, ap, subst, sym, ◌∙◌, is_some}
 use Rattle.std.specs.Prelude.{vec_len, vec_capacity}
-use Rattle.tc_context.proofs.Vocabulary.{AreEnded, Block, Guest, IsSoundPackage, SameLocks, next_lock, thread_of, view_of, pending_in}
-use Rattle.tc_context.specs.declared.room.Room.{Room}
+use Rattle.tc_context.proofs.Vocabulary.{AreEnded, Block, Guest, IsSoundPackage, SameLocks, next_lock, thread_of, PackageView, kept, lock_in, option_map, view_of, locks_with, pending_in, Room}
 use Rattle.tc_context.proofs.Ended.{ended_rooms}
 use Rattle.tc_context.proofs.Rooms.{EachGives, gives_none}
-use Rattle.tc_context.proofs.Staging.{shows, with_rooms, same_set, sound_rooms}
+use Rattle.tc_context.proofs.Staging.{shows, with_rooms, same_set, same_seen, seen_places, roomy_seen, sound_rooms, unsealed_rooms}
+use Rattle.tc_context.specs.View.{bare}
 use Rattle.tc_context.proofs.package.Package.reserve_more.Goals as goal
 
 pub invariant_of-self : goal.invariant_of-self
 invariant_of-self c =
     let s = shows c.deref_mut-contents.ensures.value c.self.view_is c.self.invariant in
     let p = view_of c.deref_mut-contents.result.now in
-    let now = p.context.locks in
-    let same : SameLocks p.context.locks now = λ k. refl in
+    let now = c.deref_mut-contents.result.now.context.locks in
+    let same : SameLocks now now = λ k. refl in
     let log = c.make_room.new.log in
+    let a = c.deref_mut-contents.result.now in
+    let o = p.pending in
+    let regs = a.context.guest.regs in
+    let seen = locks_with o regs now in
+    let as_seen = same_seen o regs a.context.locks now same in
+    let regs_is = ap (λ (g : Guest). g.regs) c.make_room.ensures.thread in
     record {
-      sound = subst (λ (z : List Block × Guest). IsSoundPackage (record (with_rooms p now (vec_capacity log - vec_len log) p.turns) { context = record { thread = p.context.thread; guest = z.1; locks = now }; pending = pending_in c.deref_mut-contents.result.now.pending z.0; log = z.0 })) (λ i. (sym c.make_room.ensures.same.items i, sym c.make_room.ensures.thread i))
-          (sound_rooms p now (vec_capacity log - vec_len log) p.turns s.kept.sound.places.0 same s.kept.sound);
+      sound = subst (λ (z : List Block × Guest). IsSoundPackage (record (with_rooms p seen (vec_capacity log - vec_len log) p.turns) { context = record { thread = p.context.thread; guest = z.1; locks = locks_with (pending_in a.pending z.0) z.1.regs now }; pending = pending_in a.pending z.0; log = z.0 })) (λ i. (sym c.make_room.ensures.same.items i, sym c.make_room.ensures.thread i))
+          (sound_rooms p seen (vec_capacity log - vec_len log) p.turns s.kept.sound.places.0 as_seen s.kept.sound);
       code = s.kept.code;
-      ended = subst (λ (g : Guest). AreEnded (record { thread = p.context.thread; guest = g; locks = now })) (sym c.make_room.ensures.thread) (ended_rooms p.context now same s.kept.ended);
+      ended = subst (λ (z : List Block × Guest). AreEnded (record { thread = p.context.thread; guest = z.1; locks = locks_with (pending_in a.pending z.0) z.1.regs now })) (λ i. (sym c.make_room.ensures.same.items i, sym c.make_room.ensures.thread i)) (ended_rooms p.context seen as_seen s.kept.ended);
+      unsealed = λ b is. unsealed_rooms b regs _ a.context.locks now regs_is same (s.kept.unsealed b (ap (pending_in a.pending) (sym c.make_room.ensures.same.items) ∙ is));
       edge = λ packed. s.kept.edge packed ∙ ap (λ (g : Guest). g.regs) (sym c.make_room.ensures.thread);
       next = s.kept.next ∙ ap (λ (g : Guest). next_lock p.image (thread_of g)) (sym c.make_room.ensures.thread);
       own = c.make_room.ensures.own;
-      present = λ k. same_set p.context.locks now same k ∙ s.kept.present k;
+      present = λ k. same_set a.context.locks now same k ∙ s.kept.present k;
       pending = subst (λ (g : List Block). is_some (pending_in c.deref_mut-contents.result.now.pending g) ≡ c.deref_mut-contents.result.now.pending) (sym c.make_room.ensures.same.items) s.kept.pending;
       log = omega (arith, ap (λ (r : Room). r.entries) c.none-contents.ensures);
       room = subst (λ (r : Room). EachGives r now) (sym c.none-contents.ensures) (gives_none now);
@@ -35,15 +42,22 @@ invariant_of-self-in_err-made c =
     let now = c.reserve-made.new.self in
     let same = c.reserve-made.ensures.same in
     let log = c.make_room.new.log in
+    let a = c.deref_mut-contents.result.now in
+    let o = p.pending in
+    let regs = a.context.guest.regs in
+    let seen = locks_with o regs now in
+    let as_seen = same_seen o regs a.context.locks now same in
+    let regs_is = ap (λ (g : Guest). g.regs) c.make_room.ensures.thread in
     record {
-      sound = subst (λ (z : List Block × Guest). IsSoundPackage (record (with_rooms p now (vec_capacity log - vec_len log) p.turns) { context = record { thread = p.context.thread; guest = z.1; locks = now }; pending = pending_in c.deref_mut-contents.result.now.pending z.0; log = z.0 })) (λ i. (sym c.make_room.ensures.same.items i, sym c.make_room.ensures.thread i))
-          (sound_rooms p now (vec_capacity log - vec_len log) p.turns c.bound.ensures.places same s.kept.sound);
+      sound = subst (λ (z : List Block × Guest). IsSoundPackage (record (with_rooms p seen (vec_capacity log - vec_len log) p.turns) { context = record { thread = p.context.thread; guest = z.1; locks = locks_with (pending_in a.pending z.0) z.1.regs now }; pending = pending_in a.pending z.0; log = z.0 })) (λ i. (sym c.make_room.ensures.same.items i, sym c.make_room.ensures.thread i))
+          (sound_rooms p seen (vec_capacity log - vec_len log) p.turns (seen_places o regs now c.bound.ensures.places) as_seen s.kept.sound);
       code = s.kept.code;
-      ended = subst (λ (g : Guest). AreEnded (record { thread = p.context.thread; guest = g; locks = now })) (sym c.make_room.ensures.thread) (ended_rooms p.context now same s.kept.ended);
+      ended = subst (λ (z : List Block × Guest). AreEnded (record { thread = p.context.thread; guest = z.1; locks = locks_with (pending_in a.pending z.0) z.1.regs now })) (λ i. (sym c.make_room.ensures.same.items i, sym c.make_room.ensures.thread i)) (ended_rooms p.context seen as_seen s.kept.ended);
+      unsealed = λ b is. unsealed_rooms b regs _ a.context.locks now regs_is same (s.kept.unsealed b (ap (pending_in a.pending) (sym c.make_room.ensures.same.items) ∙ is));
       edge = λ packed. s.kept.edge packed ∙ ap (λ (g : Guest). g.regs) (sym c.make_room.ensures.thread);
       next = s.kept.next ∙ ap (λ (g : Guest). next_lock p.image (thread_of g)) (sym c.make_room.ensures.thread);
       own = c.make_room.ensures.own;
-      present = λ k. same_set p.context.locks now same k ∙ s.kept.present k;
+      present = λ k. same_set a.context.locks now same k ∙ s.kept.present k;
       pending = subst (λ (g : List Block). is_some (pending_in c.deref_mut-contents.result.now.pending g) ≡ c.deref_mut-contents.result.now.pending) (sym c.make_room.ensures.same.items) s.kept.pending;
       log = omega (arith, ap (λ (r : Room). r.entries) c.none-contents.ensures);
       room = subst (λ (r : Room). EachGives r now) (sym c.none-contents.ensures) (gives_none now);
@@ -56,16 +70,46 @@ invariant_of-self-2 c =
     let now = c.reserve-made.new.self in
     let same = c.reserve-made.ensures.same in
     let log = c.make_room.new.log in
+    let a = c.deref_mut-contents.result.now in
+    let o = p.pending in
+    let regs = a.context.guest.regs in
+    let seen = locks_with o regs now in
+    let as_seen = same_seen o regs a.context.locks now same in
+    let regs_is = ap (λ (g : Guest). g.regs) c.make_room.ensures.thread in
     record {
-      sound = subst (λ (z : List Block × Guest). IsSoundPackage (record (with_rooms p now (vec_capacity log - vec_len log) p.turns) { context = record { thread = p.context.thread; guest = z.1; locks = now }; pending = pending_in c.deref_mut-contents.result.now.pending z.0; log = z.0 })) (λ i. (sym c.make_room.ensures.same.items i, sym c.make_room.ensures.thread i))
-          (sound_rooms p now (vec_capacity log - vec_len log) p.turns c.bound.ensures.places same s.kept.sound);
+      sound = subst (λ (z : List Block × Guest). IsSoundPackage (record (with_rooms p seen (vec_capacity log - vec_len log) p.turns) { context = record { thread = p.context.thread; guest = z.1; locks = locks_with (pending_in a.pending z.0) z.1.regs now }; pending = pending_in a.pending z.0; log = z.0 })) (λ i. (sym c.make_room.ensures.same.items i, sym c.make_room.ensures.thread i))
+          (sound_rooms p seen (vec_capacity log - vec_len log) p.turns (seen_places o regs now c.bound.ensures.places) as_seen s.kept.sound);
       code = s.kept.code;
-      ended = subst (λ (g : Guest). AreEnded (record { thread = p.context.thread; guest = g; locks = now })) (sym c.make_room.ensures.thread) (ended_rooms p.context now same s.kept.ended);
+      ended = subst (λ (z : List Block × Guest). AreEnded (record { thread = p.context.thread; guest = z.1; locks = locks_with (pending_in a.pending z.0) z.1.regs now })) (λ i. (sym c.make_room.ensures.same.items i, sym c.make_room.ensures.thread i)) (ended_rooms p.context seen as_seen s.kept.ended);
+      unsealed = λ b is. unsealed_rooms b regs _ a.context.locks now regs_is same (s.kept.unsealed b (ap (pending_in a.pending) (sym c.make_room.ensures.same.items) ∙ is));
       edge = λ packed. s.kept.edge packed ∙ ap (λ (g : Guest). g.regs) (sym c.make_room.ensures.thread);
       next = s.kept.next ∙ ap (λ (g : Guest). next_lock p.image (thread_of g)) (sym c.make_room.ensures.thread);
       own = c.make_room.ensures.own;
-      present = λ k. same_set p.context.locks now same k ∙ s.kept.present k;
+      present = λ k. same_set a.context.locks now same k ∙ s.kept.present k;
       pending = subst (λ (g : List Block). is_some (pending_in c.deref_mut-contents.result.now.pending g) ≡ c.deref_mut-contents.result.now.pending) (sym c.make_room.ensures.same.items) s.kept.pending;
       log = (let h = c.room-contents.ensures.most.entries in omega (arith, h, c.of.ensures));
-      room = λ k l e. c.room-contents.ensures.locks k l e (sym (s.kept.present k) ∙ sym (same_set p.context.locks now same k) ∙ ap is_some e);
+      room = λ k l e. c.room-contents.ensures.locks k l e (sym (s.kept.present k) ∙ sym (same_set a.context.locks now same k) ∙ ap is_some e);
+    }
+
+pub returns-clause-ok : goal.returns-clause-ok
+returns-clause-ok c =
+    let s = shows c.deref_mut-contents.ensures.value c.self.view_is c.self.invariant in
+    let a = c.deref_mut-contents.result.now in
+    let now = c.reserve-made.new.self in
+    let room = roomy_seen (pending_in a.pending c.make_room.new.log.items) c.make_room.new.guest.regs now (λ k l e. c.in_ok-made.ensures.ok k l e (sym (s.kept.present k) ∙ sym (same_set a.context.locks now c.reserve-made.ensures.same k) ∙ ap is_some e)) in
+    record { log = omega (arith, c.in_ok-make_room.ensures.room); entries = λ k l e. (room k l e).entry; words = λ k l e. (room k l e).words }
+
+pub returns-clause-same : goal.returns-clause-same
+returns-clause-same c =
+    let s = shows c.deref_mut-contents.ensures.value c.self.view_is c.self.invariant in
+    let a = c.deref_mut-contents.result.now in
+    let items = c.make_room.ensures.same.items in
+    let thread = c.make_room.ensures.thread in
+    record {
+      rest = (λ i. record { image = a.of.value; context = record { thread = a.context.thread; guest = thread i; locks = [] }; granted = None; pending = pending_in a.pending (items i); log = items i; log_room = 0; numbers = []; turns = 0; slept = a.slept }) ∙ ap bare s.is;
+      granted = ap (λ (v : PackageView). v.granted) s.is;
+      numbers = ap (λ (v : PackageView). v.numbers) s.is;
+      turns = ap (λ (v : PackageView). v.turns) s.is;
+      locks = λ k. (λ i. option_map kept (lock_in (locks_with (pending_in a.pending (items i)) (thread i).regs c.reserve-made.new.self) k))
+          ∙ same_seen (pending_in a.pending a.log.items) a.context.guest.regs a.context.locks c.reserve-made.new.self c.reserve-made.ensures.same k ∙ ap (λ (v : PackageView). option_map kept (lock_in v.context.locks k)) s.is;
     }

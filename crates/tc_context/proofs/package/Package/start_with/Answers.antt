@@ -1,12 +1,8 @@
 use Rattle.std.proofs.Common.{refl, arith, ap, subst, sym, ◌∙◌, ◌≡◌, ◌==◌, None, Some, is_some}
 use Rattle.std.proofs.lemmas.Nat.Bits.{bit_at-zero}
 use Rattle.std.specs.Arc.{arc_value}
-use Rattle.tc_turn.specs.Memory.{own_of}
-use Rattle.tc_turn.specs.Turn.{thread_at_start, with_own}
-use Rattle.tc_turn.proofs.Turns.{next_by_own}
-use Rattle.tc_context.proofs.Vocabulary.{has, next_lock, thread_in, KeptPackage}
+use Rattle.tc_context.proofs.Vocabulary.{has, next_lock, thread_in, KeptPackage, Room, thread_at_start, with_own, next_by_own, own_of}
 use Rattle.tc_context.proofs.Staging.{fresh_sound}
-use Rattle.tc_context.specs.declared.room.Room.{Room}
 use Rattle.tc_context.proofs.package.Package.start_with.Goals as goal
 
 pub invariant_of-result : goal.invariant_of-result
@@ -34,5 +30,6 @@ invariant_of-result c = subst KeptPackage (sym c.in_ok-new.ensures.ok) (record {
   edge = λ no. absurd (cc);
   log = omega (arith, ap (λ (r : Room). r.entries) c.none-2.ensures);
   room = λ k l found. absurd (let f : None ≡ Some l = sym (c.in_ok-context.ensures.locks k) ∙ found in cc);
+  unsealed = λ b no. absurd (cc);
   own = λ room. absurd (omega (arith, room, c.new.ensures.len, c.new.ensures.capacity));
 })

@@ -1,8 +1,8 @@
-use Rattle.std.proofs.Common.{◌<◌, arith, ap, subst, sym, ◌∙◌, None, is_some}
-use Rattle.tc_context.proofs.Vocabulary.{has, IsAtRest, lock_in, PackageView, IsSoundPackage, view_of}
+use Rattle.std.proofs.Common.{◌≡◌, ◌==◌, ◌<◌, arith, refl, ap, subst, sym, ◌∙◌, Some, None, is_some, if◌then◌else◌}
+use Rattle.tc_context.proofs.Vocabulary.{has, IsAtRest, lock_in, PackageView, AreEnded, IsSoundPackage, locks_with, view_of, view_with, without_lock}
 use Rattle.tc_context.proofs.LockList.{with_locks}
 use Rattle.tc_context.proofs.Ended.{ended_placed}
-use Rattle.tc_context.proofs.Staging.{shows, place_small, at_rest, set_without, taken_sound}
+use Rattle.tc_context.proofs.Staging.{rests, shows, place_small, at_rest, set_without, taken_sound}
 use Rattle.tc_context.proofs.Rooms.{gives_placed}
 use Rattle.tc_context.proofs.package.Package.take_out.Goals as goal
 
@@ -14,15 +14,17 @@ take_out-requires c =
 pub invariant_of-self : goal.invariant_of-self
 invariant_of-self c =
     let s = shows c.deref_mut-contents.ensures.value c.self.view_is c.self.invariant in
-    let p = view_of c.deref_mut-contents.result.now in
-    let small : c.args.lock < 32 = place_small p c.args.lock s.kept.sound (ap (λ (v : PackageView). is_some (lock_in v.context.locks c.args.lock)) s.is ∙ c.requires.here) in
-    let free = ap (λ (v : PackageView). has v.context.guest.held c.args.lock) s.is ∙ c.requires.released in
+    let r = rests s c.requires.pending in
+    let p = view_with None c.deref_mut-contents.result.now in
+    let small : c.args.lock < 32 = place_small p c.args.lock r.sound (ap (λ (v : PackageView). is_some (lock_in v.context.locks c.args.lock)) r.is ∙ c.requires.here) in
+    let free = ap (λ (v : PackageView). has v.context.guest.held c.args.lock) r.is ∙ c.requires.released in
     record {
-      sound = subst IsSoundPackage (λ i. record p { context = with_locks p.context (sym c.take_out.ensures.is i) })
-          (taken_sound p c.args.lock s.kept.sound (ap (λ (v : PackageView). v.pending) s.is ∙ c.requires.pending) (ap (λ (v : PackageView). v.granted) s.is ∙ c.requires.granted)
-          free small);
+      sound = subst (λ o. IsSoundPackage (record p { context = with_locks p.context (locks_with o p.context.guest.regs c.take_out.new.self); pending = o })) (sym r.none)
+          (subst IsSoundPackage (λ i. record p { context = with_locks p.context (sym c.take_out.ensures.is i) })
+          (taken_sound p c.args.lock r.sound refl (ap (λ (v : PackageView). v.granted) r.is ∙ c.requires.granted) free small));
       code = s.kept.code;
-      ended = ended_placed p.context _ c.args.lock None c.take_out.ensures.left free s.kept.ended;
+      ended = subst (λ o. AreEnded (with_locks p.context (locks_with o p.context.guest.regs c.take_out.new.self))) (sym r.none) (ended_placed p.context _ c.args.lock None c.take_out.ensures.left free r.ended);
+      unsealed = λ b is. absurd (let f : None ≡ Some b = sym r.none ∙ is in cc);
       edge = s.kept.edge;
       next = s.kept.next;
       present = set_without c.args.lock p.context.locks _ c.deref_mut-contents.result.now.present _ c.take_out.ensures.left c.less-contents.ensures.each s.kept.present;
@@ -32,8 +34,30 @@ invariant_of-self c =
       own = s.kept.own;
     }
 
+pub returns-clause-lock : goal.returns-clause-lock
+returns-clause-lock c =
+    let s = shows c.deref_mut-contents.ensures.value c.self.view_is c.self.invariant in
+    ap (λ (v : PackageView). lock_in v.context.locks c.args.lock) (sym (rests s c.requires.pending).is) ∙ sym c.take_out.ensures.taken ∙ c.in-Some.is
+
 pub returns-clause-rest : goal.returns-clause-rest
 returns-clause-rest c =
     let s = shows c.deref_mut-contents.ensures.value c.self.view_is c.self.invariant in
-    subst (λ (v : PackageView). IsAtRest v.image c.args.lock c.in-Some.state) s.is (at_rest (view_of c.deref_mut-contents.result.now) c.args.lock c.in-Some.state s.kept.sound (ap (λ (v : PackageView). v.pending) s.is ∙ c.requires.pending)
-    (ap (λ (v : PackageView). has v.context.guest.held c.args.lock) s.is ∙ c.requires.released) (sym c.take_out.ensures.taken ∙ c.in-Some.is))
+    let r = rests s c.requires.pending in
+    subst (λ (v : PackageView). IsAtRest v.image c.args.lock c.in-Some.state) r.is (at_rest (view_with None c.deref_mut-contents.result.now) c.args.lock c.in-Some.state r.sound refl
+    (ap (λ (v : PackageView). has v.context.guest.held c.args.lock) r.is ∙ c.requires.released) (sym c.take_out.ensures.taken ∙ c.in-Some.is))
+
+pub returns-clause-is : goal.returns-clause-is
+returns-clause-is c =
+    let s = shows c.deref_mut-contents.ensures.value c.self.view_is c.self.invariant in
+    let r = rests s c.requires.pending in
+    let p = view_with None c.deref_mut-contents.result.now in
+    ap (λ o. record p { context = with_locks p.context (locks_with o p.context.guest.regs c.take_out.new.self); pending = o }) r.none
+    ∙ (λ i. record p { context = with_locks p.context (c.take_out.ensures.is i) }) ∙ ap (without_lock c.args.lock) r.is
+
+pub returns-clause-locks : goal.returns-clause-locks
+returns-clause-locks c =
+    let s = shows c.deref_mut-contents.ensures.value c.self.view_is c.self.invariant in
+    let r = rests s c.requires.pending in
+    let regs = c.deref_mut-contents.result.now.context.guest.regs in
+    λ k. ap (λ o. lock_in (locks_with o regs c.take_out.new.self) k) r.none ∙ c.take_out.ensures.left k
+    ∙ ap (λ (v : PackageView). if k == c.args.lock then None else lock_in v.context.locks k) r.is

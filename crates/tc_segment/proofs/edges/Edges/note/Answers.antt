@@ -1,6 +1,5 @@
 use Rattle.std.proofs.Common.{◌≡◌, length, drop, sym, ap, subst, ◌∙◌, arith}
-use Rattle.tc_segment.proofs.Vocabulary.{Edges, Extends}
-use Rattle.std.proofs.lemmas.List.{drop_at}
+use Rattle.tc_segment.proofs.Vocabulary.{Edges, Extends, drop_at}
 use Rattle.tc_segment.proofs.Packing.{all_packed, some_packed, stands_last, extends_more}
 use Rattle.tc_segment.proofs.edges.Edges.note.Goals as goal
 

@@ -1,6 +1,5 @@
 use Rattle.std.proofs.Common.{ap, sym, ◌∙◌, map, take, subst}
-use Rattle.tc_segment.proofs.Vocabulary.{KeptLock, LockView, block_of, blocks_of, last_of, may_begin, run_of, view_of}
-use Rattle.tc_journal.specs.Batch.{allows_of}
+use Rattle.tc_segment.proofs.Vocabulary.{KeptLock, LockView, block_of, blocks_of, last_of, may_begin, run_of, view_of, allows_of}
 use Rattle.tc_segment.proofs.Sealing.{blocks_shown}
 use Rattle.tc_segment.proofs.state.LockState.allows.Goals as goal
 

@@ -1,7 +1,6 @@
 use Rattle.std.proofs.Common.{◌≡◌, ◌∙◌, length, sym, ap, subst, arith}
-use Rattle.tc_segment.proofs.Vocabulary.{AllFit, IsSoundLock, KeptLock, LockView, Shown, blocks_of, guard_at, run_of}
-use Rattle.tc_turn.specs.Memory.{starting_bytes}
-use Rattle.tc_segment.specs.Edges.{room_in}
+use Rattle.tc_segment.proofs.Vocabulary.{AllFit, IsSoundLock, KeptLock, LockView, Shown, blocks_of, guard_at, last_finish, run_of, room_in, starting_bytes}
+use Rattle.std.specs.Prelude.{Some, None}
 use Rattle.tc_segment.proofs.Keeping.{fresh_view, sound_fresh}
 use Rattle.tc_segment.proofs.state.LockState.at_start.Goals as goal
 
@@ -17,7 +16,7 @@ invariant_of-result c =
     let words = c.new-3.result.items in
     let records = c.new.ensures.items in
     let room : room_in c.new-3.result ≡ 0 = omega (arith, c.new-3.ensures.len, c.new-3.ensures.capacity) in
-    let view = fresh_view _ image c.args.lock c.args.limit c.args.strict _ words edges _ _ of bytes records room in
+    let view = fresh_view _ image c.args.lock c.args.limit c.args.strict _ words edges _ _ _ of bytes records (omega arith) room in
     let none = ap length records in
     subst KeptLock (sym c.in_ok-new.ensures.ok) (record {
       sound = subst (λ (l : LockView). IsSoundLock l) (sym view) (sound_fresh image c.args.lock c.args.limit c.args.strict c.requires.known (omega arith) guard.kept c.requires.lawful);
@@ -26,9 +25,12 @@ invariant_of-result c =
       sealed = omega arith;
       closed = omega (arith, none);
       opened = tt;
+      from = λ no. sym (ap length c.new-3.ensures.items);
+      ends = λ no regs on. absurd (let f : None ≡ Some regs = ap (λ (l : LockView). last_finish l.journal.sealed l.journal.closed) (sym view) ∙ on in cc);
       run = sym (ap (λ (l : LockView). run_of c.args.lock (blocks_of l)) view);
       short = omega arith;
-      entry_room = omega arith;
+      entries = omega (arith, none);
+      most = omega arith;
       edge_room = omega arith;
       word_places = omega arith;
     })

@@ -1,8 +1,6 @@
 use Rattle.std.proofs.Common.{◌∙◌, ap, subst, sym, map, length, refl, arith}
-use Rattle.tc_segment.proofs.Vocabulary.{Fits, KeptLock, LockView, entries, option_map, shown, view_of}
+use Rattle.tc_segment.proofs.Vocabulary.{Fits, KeptLock, LockView, entries, option_map, shown, view_of, length-map, slice_get-map, slice_get_read}
 use Rattle.std.specs.Prelude.{slice_get, Some}
-use Rattle.std.proofs.lemmas.List.{length-map}
-use Rattle.std.proofs.lemmas.Option.{slice_get-map, slice_get_read}
 use Rattle.tc_segment.proofs.Keeping.{fits_at, entries_are}
 use Rattle.tc_segment.proofs.state.LockState.entry.Goals as goal
 

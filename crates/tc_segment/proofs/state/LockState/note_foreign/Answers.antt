@@ -1,16 +1,16 @@
 use Rattle.std.proofs.Common.{◌≡◌, ℕ, [], List, ◌∷◌, ◌++◌, ◌-◌, ◌<◌, true, map, sym, ap, subst, ◌∙◌, arith}
-use Rattle.tc_segment.proofs.Vocabulary.{AllFit, Contents, IsSoundLock, KeptLock, LockView, OpenFits, blocks_of, noted, run_of, shown, shown_journal, view_of, with_journal, grounds}
+use Rattle.tc_segment.proofs.Vocabulary.{AllFit, Contents, IsSoundLock, KeptLock, LockView, OpenFits, blocks_of, entry_room_in, noted, open_in, run_of, shown, shown_journal, view_of, with_journal, grounds, room_in}
 use Rattle.std.specs.Prelude.{is_some}
-use Rattle.tc_segment.specs.Edges.{room_in}
 use Rattle.tc_segment.proofs.Keeping.{word_more, shown_grown, fits_grown, noted_journal, sound_noted, open_fits-more}
+use Rattle.tc_segment.proofs.Opening.{is_opened}
 use Rattle.tc_segment.proofs.state.LockState.note_foreign.Goals as goal
 
 noted_view : (a : Contents) (words : List ℕ) (room value : ℕ) → KeptLock a → is_some (view_of a).journal.opened ≡ true → words ≡ a.words.items ++ value ∷ [] → room ≡ room_in a.words - 1
-    → record { number = a.number; bytes = a.bytes.items; broken = a.broken; sections = a.sections; journal = shown_journal (grounds a.of.value a.number a.limit a.strict a.edges.words words) (map (shown a.edges.words words) a.records.items) a.sealed a.opened a.entry_room room } ≡ with_journal (noted (value ∷ [])) (view_of a)
+    → record { number = a.number; bytes = a.bytes.items; broken = a.broken; sections = a.sections; journal = shown_journal (grounds a.of.value a.number a.limit a.strict a.edges.words words) (map (shown a.edges.words words) a.records.items) a.sealed (open_in a.opened a.next) (entry_room_in a) room } ≡ with_journal (noted (value ∷ [])) (view_of a)
 noted_view a words room value k was e less =
     let old = map (shown a.edges.words a.words.items) a.records.items in
-    let j = (λ i. shown_journal (grounds a.of.value a.number a.limit a.strict a.edges.words (e i)) (map (shown a.edges.words (e i)) a.records.items) a.sealed a.opened a.entry_room (less i))
-    ∙ noted_journal a.of.value a.number a.limit a.strict old _ a.sealed a.edges.words a.words.items a.opened a.entry_room (room_in a.words) value
+    let j = (λ i. shown_journal (grounds a.of.value a.number a.limit a.strict a.edges.words (e i)) (map (shown a.edges.words (e i)) a.records.items) a.sealed (open_in a.opened a.next) (entry_room_in a) (less i))
+    ∙ noted_journal a.of.value a.number a.limit a.strict old _ a.sealed a.edges.words a.words.items (open_in a.opened a.next) (entry_room_in a) (room_in a.words) value
     (shown_grown (word_more a.edges.words a.words.items (value ∷ [])) a.records.items k.records) k.opened was in
     λ i. record { number = a.number; bytes = a.bytes.items; broken = a.broken; sections = a.sections; journal = j i }
 
@@ -37,10 +37,13 @@ invariant_of-self c =
       records = subst (λ ws. AllFit a.edges.words ws a.records.items) (sym items) (fits_grown (word_more a.edges.words a.words.items (c.args.value ∷ [])) a.records.items k.records);
       sealed = k.sealed;
       closed = k.closed;
-      opened = subst (λ ws. OpenFits a.edges.words ws a.opened) (sym items) (open_fits-more a.edges.words a.words.items (c.args.value ∷ []) a.opened k.opened);
+      opened = subst (λ ws. OpenFits a.edges.words ws (open_in a.opened a.next)) (sym items) (open_fits-more a.edges.words a.words.items (c.args.value ∷ []) (open_in a.opened a.next) k.opened);
+      from = λ no. absurd (let is = is_opened a was in cc);
+      ends = λ no. absurd (let is = is_opened a was in cc);
       run = k.run ∙ ap (λ (l : LockView). run_of a.number (blocks_of l)) (sym view);
       short = k.short;
-      entry_room = k.entry_room;
+      entries = k.entries;
+      most = k.most;
       edge_room = k.edge_room;
       word_places = omega (arith, room, c.push_reserved.ensures.len);
     }

@@ -1,7 +1,5 @@
 use Rattle.std.proofs.Common.{Bool, not, ◌||◌, ap, sym, ◌∙◌, map, take}
-use Rattle.tc_segment.proofs.Vocabulary.{LockView, block_of, blocks_of, last_of, view_of}
-use Rattle.tc_journal.specs.Batch.{passes_to}
-use Rattle.tc_segment.specs.View.{passes_in}
+use Rattle.tc_segment.proofs.Vocabulary.{LockView, block_of, blocks_of, last_of, view_of, passes_in, passes_to}
 use Rattle.tc_segment.proofs.Sealing.{blocks_shown}
 use Rattle.tc_segment.proofs.state.LockState.passes_to.Goals as goal
 

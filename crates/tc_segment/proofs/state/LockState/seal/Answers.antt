@@ -1,14 +1,8 @@
 use Rattle.std.proofs.Common.{◌≡◌, ℕ, ◌+◌, ◌<◌, ◌≤◌, [], ◌∷◌, ◌++◌, true, map, set, get_or, length, inl, inr, sym, ap, subst, ◌∙◌, arith}
-use Rattle.tc_segment.proofs.Vocabulary.{Contents, Entry, Fits, IsSoundLock, IsStrict, KeptLock, LockView, Record, block_in, blocks_of, option_map, run_after, run_of, sealed_as, sealed_block, sealed_entry, sealed_list, shown, shown_journal, view_of, with_journal, grounds}
+use Rattle.tc_segment.proofs.Vocabulary.{Contents, Entry, Fits, IsSoundLock, IsStrict, KeptLock, LockView, Record, block_in, blocks_of, entry_room_in, last_finish, open_in, option_map, run_after, run_of, sealed_as, sealed_block, sealed_entry, sealed_list, shown, shown_journal, view_of, with_journal, grounds, length-map, length-set, map-append, map-set, slice_get-map, slice_get-get_or, slice_get_cases, room_in, may_follow, passes_on, run_from-more, sealed_record}
 use Rattle.std.specs.Prelude.{Some, is_some, slice_get}
-use Rattle.std.proofs.lemmas.List.{length-map, length-set, map-append, map-set}
-use Rattle.std.proofs.lemmas.Option.{slice_get-map, slice_get-get_or, slice_get_cases}
-use Rattle.tc_journal.proofs.Batching.{run_from-more}
-use Rattle.tc_journal.specs.Batch.{may_follow, passes_on}
-use Rattle.tc_segment.specs.Edges.{room_in}
-use Rattle.tc_segment.specs.Kept.{sealed_record}
 use Rattle.tc_segment.proofs.Keeping.{fits_at, fits_set}
-use Rattle.tc_segment.proofs.Sealing.{sealed_journal, sound_sealed, run_short}
+use Rattle.tc_segment.proofs.Sealing.{sealed_journal, sealed_last, sound_sealed, run_short}
 use Rattle.tc_segment.proofs.state.LockState.seal.Goals as goal
 
 -- the closed entry, which is that of the record behind the sealed ones
@@ -16,12 +10,12 @@ closed_at : (a : Contents) (r : Record) → slice_get a.records.items a.sealed �
 closed_at a r is = slice_get-map (shown a.edges.words a.words.items) a.records.items a.sealed ∙ ap (option_map (shown a.edges.words a.words.items)) is
 
 sealed_view : (a : Contents) (stamp worker : ℕ) (r s : Record) → KeptLock a → slice_get a.records.items a.sealed ≡ Some r → s ≡ sealed_record stamp worker r
-    → record { number = a.number; bytes = a.bytes.items; broken = a.broken; sections = a.sections; journal = shown_journal (grounds a.of.value a.number a.limit a.strict a.edges.words a.words.items) (map (shown a.edges.words a.words.items) (set a.records.items a.sealed s)) (a.sealed + 1) a.opened a.entry_room (room_in a.words) } ≡ with_journal (sealed_as stamp worker) (view_of a)
+    → record { number = a.number; bytes = a.bytes.items; broken = a.broken; sections = a.sections; journal = shown_journal (grounds a.of.value a.number a.limit a.strict a.edges.words a.words.items) (map (shown a.edges.words a.words.items) (set a.records.items a.sealed s)) (a.sealed + 1) (open_in a.opened a.next) (entry_room_in a) (room_in a.words) } ≡ with_journal (sealed_as stamp worker) (view_of a)
 sealed_view a stamp worker r s k is made =
     let f = shown a.edges.words a.words.items in
     let old = map f a.records.items in
     let new = map-set f a.records.items a.sealed s ∙ ap (λ x. set old a.sealed (f x)) made in
-    let j = sealed_journal a.of.value a.number a.limit a.strict old _ a.sealed a.edges.words a.words.items a.opened a.entry_room (room_in a.words) stamp worker (f r) (closed_at a r is)
+    let j = sealed_journal a.of.value a.number a.limit a.strict old _ a.sealed a.edges.words a.words.items (open_in a.opened a.next) (entry_room_in a) (room_in a.words) stamp worker (f r) (closed_at a r is)
     (let h = k.closed in omega (arith, length-map a.records.items f)) new in
     λ i. record { number = a.number; bytes = a.bytes.items; broken = a.broken; sections = a.sections; journal = j i }
 
@@ -79,9 +73,12 @@ invariant_of-self c =
       sealed = omega (arith, lt, len);
       closed = (let h = k.closed in omega (arith, len));
       opened = k.opened;
+      from = k.from;
+      ends = λ no regs on. k.ends no regs (sym (sealed_last stamp worker (view_of a).journal.sealed (view_of a).journal.closed) ∙ ap (λ (l : LockView). last_finish l.journal.sealed l.journal.closed) (sym view) ∙ on);
       run = run ∙ sym (run_from-more a.number 0 (blocks_of (view_of a)) (sealed_block stamp worker r.block)) ∙ ap (run_of a.number) (sym blocks) ∙ ap (λ (l : LockView). run_of a.number (blocks_of l)) (sym view);
       short = subst (λ n. n ≤ a.limit) (sym run) (run_short a.number a.limit (blocks_of (view_of a)) (sealed_block stamp worker r.block) (subst (λ n. n ≤ a.limit) k.run k.short) follows);
-      entry_room = k.entry_room;
+      entries = k.entries;
+      most = k.most;
       edge_room = k.edge_room;
       word_places = k.word_places;
     }

@@ -1,7 +1,5 @@
 use Rattle.std.proofs.Common.{◌∙◌, ◌≤◌, List, length, take, ap, sym, subst}
-use Rattle.std.proofs.lemmas.List.{take_all}
-use Rattle.tc_turn.specs.Memory.{Part}
-use Rattle.tc_turn.specs.Parts.{AreApart}
+use Rattle.tc_turn.proofs.Vocabulary.{take_all, Part, AreApart}
 use Rattle.tc_turn.proofs.memory.Memory.copy.Goals as goal
 
 pub invariant_of-result : goal.invariant_of-result

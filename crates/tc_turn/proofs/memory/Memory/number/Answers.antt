@@ -1,8 +1,6 @@
 use Rattle.std.proofs.Common.{◌≡◌, true, ap, sym, subst, ◌∙◌}
 use Rattle.std.specs.Prelude.{unwrap_or}
-use Rattle.std.proofs.lemmas.List.{get_or_default}
-use Rattle.tc_turn.specs.Memory.{Part, number_at, byte_from, own_of}
-use Rattle.tc_turn.specs.Parts.{no_part, part_at, part_has, AreApart}
+use Rattle.tc_turn.proofs.Vocabulary.{get_or_default, Part, number_at, byte_from, own_of, no_part, part_at, part_has, AreApart}
 use Rattle.tc_turn.proofs.PartLaws.{number_there}
 use Rattle.tc_turn.proofs.memory.Memory.number.Goals as goal
 

@@ -1,7 +1,5 @@
 use Rattle.std.proofs.Common.{◌≡◌, List, map, length, ap, sym, subst, ◌∙◌, arith}
-use Rattle.std.proofs.lemmas.List.{with_items_is}
-use Rattle.tc_turn.specs.Memory.{Part, part_with, with_number, own_of}
-use Rattle.tc_turn.specs.Parts.{AreApart}
+use Rattle.tc_turn.proofs.Vocabulary.{with_items_is, Part, part_with, with_number, own_of, AreApart}
 use Rattle.tc_turn.proofs.PartLaws.{apart_kept}
 use Rattle.tc_turn.proofs.MemoryLaws.{parts_put}
 use Rattle.tc_turn.proofs.memory.Memory.put.Goals as goal

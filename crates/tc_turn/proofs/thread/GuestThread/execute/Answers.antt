@@ -1,7 +1,5 @@
 use Rattle.std.proofs.Common.{◌≡◌, Ok, sym, subst}
-use Rattle.tc_exec.specs.Step.{instruction_at}
-use Rattle.tc_turn.specs.Own.{HasExecuted}
-use Rattle.tc_turn.specs.Turn.{Guest}
+use Rattle.tc_turn.proofs.Vocabulary.{instruction_at, Guest, HasExecuted}
 use Rattle.tc_turn.proofs.OwnTurns.{executed}
 use Rattle.tc_turn.proofs.thread.GuestThread.execute.Goals as goal
 

@@ -1,9 +1,0 @@
-use Rattle.tc_context.proofs.Vocabulary.{has, closed_in}
-use Rattle.tc_context.proofs.LockList.{Walked}
-use Rattle.tc_context.proofs.locks.LockSet.close_each.Given as goal
-
-abbrev pub invariant-loop-lock : goal.invariant-loop-lock
-invariant-loop-lock l = Walked (has l.fn.held) (has l.left) (closed_in (has l.fn.held) l.block l.finish) l.fn.self l.self
-
-abbrev pub decreases-loop-lock : goal.decreases-loop-lock
-decreases-loop-lock l = l.left
