@@ -1,7 +1,7 @@
 -- A whole block: from journals at rest to journals with an entry more.
-use Rattle.std.proofs.Common.{◌≡◌, ℕ, ◌≤◌, arith, Bool, true, false, ◌||◌, List, [], ◌∷◌, ◌++◌, length, get_or, refl, sym, ap, subst, ◌∙◌, Option, Some, None, is_some, if◌then◌else◌}
-use Rattle.tc_context.proofs.Vocabulary.{option_map, has, MAX_TURNS, Shown, is_section, ends_thread, Block, Thread, Mutex, next_lock, LockView, Journal, Opened, Closes, lock_of, with_journal, opened_at, noted, entry_from, closed_with, lock_in, mutex_of, mutex_or, when_in, Changed, EachLock, IsReady, IsUnsealed, shut, Entry, Replays, replay_entry, ended, unowned, map_some, some_of, Registers, State, locks_of_block, reach, Runs, IsRecord, replays, replay_is, block_broken, slept_at, get_or_at, End, Kind, Agree, Apart, agree_at, apart_at, covers_at, covers_block, DidTurns, MayRunBlock}
-use Rattle.tc_context.proofs.Vocabulary.{opened_in, Context, thread_in, mutex_at, whole, set_of, journal_in, journal_at, Keeps, CanGo, RunsAs, block_locks, entry_of, with_entry, entered, Journals, noted_when, words_of, MayTurn, Entry, Replays, replay_entry, ended, unowned, map_some, some_of, Registers, State, locks_of_block, reach, Runs, IsRecord, replays, replay_is, block_broken, slept_at, get_or_at, End, Kind, Agree, Apart, agree_at, apart_at, covers_at, covers_block, DidTurns, MayRunBlock}
+use Rattle.tc_context.proofs.Vocabulary.{◌≡◌, ℕ, ◌≤◌, arith, Bool, true, false, List, refl, sym, ap, subst, ◌∙◌, Option, Some, None, is_some, option_map, has, MAX_TURNS, Shown, is_section, ends_thread, Block, Thread, Mutex, next_lock, LockView, Journal, Opened, Closes, lock_of, with_journal, opened_at, noted, entry_from, closed_with, lock_in}
+use Rattle.tc_context.proofs.Vocabulary.{mutex_of, mutex_or, when_in, Changed, EachLock, IsReady, IsUnsealed, shut, Entry, Replays, replay_entry, ended, unowned, map_some, some_of, Registers, State, locks_of_block, reach, Runs, IsRecord, replays, replay_is, block_broken, slept_at, End, Kind, Agree, Apart, agree_at, apart_at, covers_at, covers_block, DidTurns, MayRunBlock, opened_in, Context}
+use Rattle.tc_context.proofs.Vocabulary.{thread_in, mutex_at, whole, set_of, journal_in, journal_at, Keeps, CanGo, RunsAs, block_locks, entry_of, with_entry, entered, Journals, noted_when, words_of, MayTurn}
 use Rattle.tc_context.specs.declared.context.Turns.{Turns}
 use Rattle.tc_context.proofs.LockList.{mapped_at, when_field, with_locks}
 use Rattle.tc_context.proofs.Moved.{identifies_when, keeps_changed, journals_changed, mutexes_same}
@@ -61,9 +61,7 @@ record_is image p b go held section = record {
 -- in a journal that is ready no entry is open, and none is closed
 not_closed : (b : Block) (regs : Registers) (j : Journal) → IsReady j → closed_with b regs j ≡ j
 not_closed b regs j ready =
-    let closed = ap (option_map (entry_from b regs)) ready.opened ∙ sym ready.closed in
-    let opened = sym ready.opened in
-    λ i. record { image = j.image; limit = j.limit; strict = j.strict; sealed = j.sealed; closed = closed i; opened = opened i; entry_room = j.entry_room; word_room = j.word_room }
+    λ i. record { image = j.image; limit = j.limit; strict = j.strict; sealed = j.sealed; closed = (ap (option_map (entry_from b regs)) ready.opened ∙ sym ready.closed) i; opened = (sym ready.opened) i; entry_room = j.entry_room; word_room = j.word_room }
 
 -- a change of the journal alone
 journal_when : (b : Bool) (f : Journal → Journal) (g : LockView → LockView) (l : LockView) → (g l).journal ≡ f l.journal → (when_in b g l).journal ≡ when_in b f l.journal
@@ -174,9 +172,8 @@ module _ {image decoded : Shown} {kind : Kind} {takes : Option ℕ} {old : Conte
 
     closes : (k : ℕ) (l : LockView) → lock_in ran.locks k ≡ Some l → has held k ≡ true → (o : Opened) → l.journal.opened ≡ Some o → Closes l made ran.guest.regs o
     closes k l found h o e =
-        let w = was_ready k l found h in
         let of = old_runs.keeps.of image may.go.of k l found in
-        let some : Some (filled k) ≡ Some o = sym (ap (λ (x : Journal). x.opened) w.2) ∙ e in
+        let some : Some (filled k) ≡ Some o = sym (ap (λ (x : Journal). x.opened) (was_ready k l found h).2) ∙ e in
         let same : filled k ≡ o = cc in
         let entry : entry_of image k (whole old) made ≡ entry_from made ran.guest.regs o = entry_is k ∙ ap (entry_from made ran.guest.regs) same in
         let from : unowned (mutex_at old k) ≡ o.from = ap (λ (x : Opened). x.from) same in

@@ -1,9 +1,7 @@
 -- The registers behind the last entry of each lock that a thread holds, with which the thread goes on.
-use Rattle.std.proofs.Common.{◌≡◌, ℕ, ◌-◌, ◌≤◌, Bool, true, false, ◌||◌, ◌==◌, List, [], ◌∷◌, ◌++◌, length, length-append, refl, sym, ap, subst, ◌∙◌, arith, inl, inr, Option, Some, None, IfSome, if◌then◌else◌}
-use Rattle.tc_context.proofs.Vocabulary.{option_map, has, Shown, next_lock, LockView, EndedAt, finish_in, last_finish, lock_of, opened_at, sealed_as, sealed_entry, sealed_list, with_journal, Context, AreEnded, lock_in, EachHeld, HoldsAt, IsReady, MayGoOn, IsPlaced, SameLocks, Changed, at_place, opened_in, sealed_in, when_in, thread_in, journal_in, AreReady, eqb_tells, Entry, map_some, option_map-id, Registers, plus_lock, next_free, next_known, locks_of_block, eq_self}
-use Rattle.tc_segment.proofs.Sealing.{sealed_last}
-use Rattle.tc_context.proofs.LockList.{with_locks}
-use Rattle.tc_context.proofs.Staging.{both_ways, lock_was}
+use Rattle.tc_context.proofs.Vocabulary.{◌≡◌, ℕ, ◌-◌, ◌≤◌, Bool, true, false, ◌||◌, List, length, refl, sym, ap, subst, ◌∙◌, arith, inl, inr, Option, Some, None, IfSome, if◌then◌else◌, option_map, has, Shown, next_lock, LockView, EndedAt, last_finish, lock_of, opened_at, sealed_as, with_journal, Context, AreEnded, lock_in, EachHeld, HoldsAt, IsReady, MayGoOn}
+use Rattle.tc_context.proofs.Vocabulary.{IsPlaced, SameLocks, Changed, at_place, opened_in, when_in, thread_in, journal_in, AreReady, eqb_tells, map_some, option_map-id, Registers, plus_lock, next_free, next_known, sealed_last}
+use Rattle.tc_context.proofs.Staging.{both_ways, lock_was, with_locks}
 
 abbrev finish_of : LockView → Option Registers
 finish_of l = last_finish l.journal.sealed l.journal.closed
@@ -41,8 +39,7 @@ opened_when start fuel b l = when_in b (with_journal (opened_at (lock_of l) star
 -- it still is with the others opened
 pub still_ready : (P : LockView → Type 0) (held : ℕ → Bool) (lock : ℕ) (start : Registers) (fuel : ℕ) (old mid : List (Option LockView)) → held lock ≡ false → Changed (opened_in held start fuel) old mid → HoldsAt lock P old → HoldsAt lock P mid
 still_ready P held lock start fuel old mid free first at =
-    let same = first lock ∙ ap (λ b. option_map (opened_when start fuel b) (lock_in old lock)) free ∙ option_map-id (λ l. l) (lock_in old lock) (λ l. refl) in
-    record { place = at.place; lock = λ l found. at.lock l (sym same ∙ found) }
+    record { place = at.place; lock = λ l found. at.lock l (sym (first lock ∙ ap (λ b. option_map (opened_when start fuel b) (lock_in old lock)) free ∙ option_map-id (λ l. l) (lock_in old lock) (λ l. refl)) ∙ found) }
 
 -- with both, each lock of the block is open
 pub opened_both : (held : ℕ → Bool) (lock : ℕ) (start : Registers) (fuel : ℕ) (old mid new : List (Option LockView)) → held lock ≡ false → Changed (opened_in held start fuel) old mid

@@ -1,6 +1,5 @@
 -- A package's lock states after a change of each of them.
-use Rattle.std.proofs.Common.{◌≡◌, ℕ, arith, get_or, set, ◌<◌, Bool, true, false, not, ◌==◌, ◌&&◌, List, map, length, refl, sym, ap, ◌∙◌, inl, inr, Option, Some, None, slice_get, if◌then◌else◌, ext_get_or}
-use Rattle.tc_context.proofs.Vocabulary.{option_map, LockView, Context, slot_of, lock_in, when_in, Changed, EachHeld, HoldsAt, at_place, eqb_tells, option_map-id, and_parts, slice_get-get_or, slice_get-map, get-set}
+use Rattle.tc_context.proofs.Vocabulary.{◌≡◌, ℕ, arith, get_or, set, ◌<◌, Bool, true, false, not, ◌==◌, ◌&&◌, List, map, length, refl, sym, ap, ◌∙◌, inl, inr, Option, Some, None, slice_get, if◌then◌else◌, ext_get_or, option_map, LockView, Context, slot_of, lock_in, when_in, Changed, EachHeld, HoldsAt, at_place, eqb_tells, option_map-id, and_parts, slice_get-get_or, slice_get-map, get-set}
 
 -- what a change leaves, it leaves where it is made in some cases alone
 pub when_field : {X Y : Type 0} (g : X → Y) (b : Bool) (f : X → X) (x : X) → g (f x) ≡ g x → g (when_in b f x) ≡ g x

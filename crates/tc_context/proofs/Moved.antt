@@ -1,13 +1,11 @@
 -- One turn of a package: what its thread and its locks are after it, and the words that its journals note.
 use Rattle.std.proofs.Common.{◌≡◌, ℕ, ◌≤◌, Bool, true, false, not, ◌||◌, ◌&&◌, ◌==◌, List, length, refl, sym, ap, subst, ◌∙◌, arith, [], ◌∷◌, ◌++◌, Option, Some, None, is_some, if◌then◌else◌, IfSome}
-use Rattle.tc_context.proofs.Vocabulary.{option_map, has, Shown, guard_at, Thread, act_with, thread_after, mutex_after, guard_with, given_up, when, taken, released, Mutex, next_lock, answer_to, LockView, Journal, guard_of, with_store, with_section, with_break, with_journal, noted, lock_in, mutex_of, mutex_or, IsLockOf, takes_word, word_of, words_now, in_guard, Region, done_of, wants_of, IsAct, IsPut, Put, Want, Covers, next_act, act_some, act_takes, next_known, Act, Done, DoneFits, put_number}
-use Rattle.tc_context.proofs.Vocabulary.{AreOf, when_in, stored_in, turned, TurnReady, StoreReady, TurnFits, StoreFits, Changed, noted_in, Context, mutex_at, journal_in, journal_at, Keeps, thread_in, set_of, act_in, noted_when, IsTurn, AreOpen, DidTurn, takes_word, word_of, words_now, in_guard, Region, done_of, wants_of, IsAct, IsPut, Put, Want, Covers, next_act, act_some, act_takes, next_known, Act, Done, DoneFits, put_number}
+use Rattle.tc_context.proofs.Vocabulary.{option_map, has, Shown, guard_at, Thread, act_with, thread_after, mutex_after, guard_with, given_up, when, taken, released, Mutex, next_lock, answer_to, LockView, Journal, guard_of, with_store, with_section, with_break, with_journal, noted, lock_in, mutex_of, mutex_or, IsLockOf, takes_word, word_of, words_now, in_guard, Region, done_of, wants_of, IsAct}
+use Rattle.tc_context.proofs.Vocabulary.{IsPut, Put, Want, Covers, next_act, act_some, act_takes, next_known, Act, Done, DoneFits, put_number, AreOf, when_in, stored_in, turned, TurnReady, StoreReady, TurnFits, StoreFits, Changed, noted_in, Context, mutex_at, journal_in, journal_at, Keeps, thread_in, set_of, act_in, noted_when, IsTurn, AreOpen, DidTurn, Lock, Unlock, Exit, Sleep, Nothing}
 use Rattle.tc_exec.proofs.Cases.{act_told}
 use Rattle.tc_exec.proofs.Laws.{put_is_held}
 use Rattle.tc_exec.specs.declared.outcome.Act.TheVariants.{Next, Called, Faulted}
-use Rattle.tc_exec.specs.declared.outcome.Call.TheVariants.{Lock, Unlock, Exit}
 pub use Rattle.tc_mutex_spec.proofs.OptionLaws.{map_some, some_map, option_map-twice}
-use Rattle.tc_exec.specs.declared.outcome.Want.TheVariants.{Nothing}
 use Rattle.std.proofs.Math.Bool.{and-false}
 use Rattle.tc_context.proofs.LockList.{when_field, unchanged}
 use Rattle.tc_segment.proofs.Inside.{guard_has}
@@ -79,13 +77,12 @@ released_mutex t b false l = refl
 
 pub turned_mutex : (image : Shown) (t k : ℕ) (d : Thread) (a : Option Act) (l : LockView) → IsLockOf image k l
     → mutex_of t ((thread_after d a).held k) (turned d.held (option_map done_of a) k l) ≡ mutex_after image t d.held a k (mutex_of t (d.held k) l)
-turned_mutex image t k d None l of = broken_mutex t (d.held k) l
 turned_mutex image t k d (Some (Next regs (Some put))) l of = stored_mutex image t k (d.held k) put.region put.addr put.width put.value l of
 turned_mutex image t k d (Some (Called (Lock lock) regs)) l of = taken_mutex t (d.held k) (k == lock) l
 turned_mutex image t k d (Some (Called (Unlock lock) regs)) l of = released_mutex t (d.held k) (k == lock) l
-turned_mutex image t k d (Some (Called Exit regs)) l of = broken_mutex t (d.held k) l
-turned_mutex image t k d (Some (Faulted f)) l of = broken_mutex t (d.held k) l
-turned_mutex image t k d _ l of = refl
+turned_mutex image t k d (Some (Next regs None)) l of = refl
+turned_mutex image t k d (Some (Called (Sleep n) regs)) l of = refl
+turned_mutex image t k d _ l of = broken_mutex t (d.held k) l
 
 abbrev IsSame : LockView → LockView → Type 0
 IsSame l x = (x.number ≡ l.number) × (x.journal ≡ l.journal)
@@ -110,9 +107,8 @@ same_turned held _ k l = (refl, refl)
 put_ready : (image : Shown) (held : ℕ → Bool) (put : Put) (place : Region) (k : ℕ) (l : LockView) → put.region ≡ place → IsPut image held put → IsLockOf image k l
     → (held k ≡ true → is_some l.journal.opened ≡ true) → ((lock : ℕ) → put.region ≡ region.Guard lock → held lock ≡ true) → StoreReady place k put.addr put.width l
 put_ready image held put (region.Guard lock) k l e is of opened holds = λ same.
-    let g = guard_has image lock put.addr put.width (sym is.lies ∙ e) in
     let here : guard_of l ≡ guard_at image lock = (λ i. guard_at (of.of i) (of.number i)) ∙ ap (guard_at image) same in (
-      ap (in_guard put.addr put.width) here ∙ g.inside,
+      ap (in_guard put.addr put.width) here ∙ (guard_has image lock put.addr put.width (sym is.lies ∙ e)).inside,
       opened (ap held same ∙ holds lock e),
     )
 put_ready image held put _ k l e is of opened holds = tt

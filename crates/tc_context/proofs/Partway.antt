@@ -1,13 +1,12 @@
 -- A package in the middle of a block.
-use Rattle.std.proofs.Common.{◌≡◌, ℕ, ◌+◌, ◌-◌, ◌<◌, ◌≤◌, Bool, true, false, ◌&&◌, ◌++◌, length, refl, sym, ap, subst, ◌∙◌, arith, add-one, zero, suc, Option, Some, None, nat_lt, is_some, if◌then◌else◌}
-use Rattle.tc_context.proofs.Vocabulary.{option_map, has, MAX_TURNS, Shown, Thread, is_running, next_lock, outcome_of, LockView, Journal, lock_in, mutex_or, Context, thread_in, mutex_at, whole, set_of, journal_at, Keeps, CanGo, block_locks, RunsAs, act_in, IsTurn, noted_when, words_of, AreOpen, HasRoom, AreNoted, GoesOn, MayTurn, nat_tests, word_of, word_short, words_short, word_same, map_some, option_map-id, option_map-twice, done_of, Covers, MayRun, next_free, covers_on, held_on, went_on, goes_on, State, is_free, is_open, can_turn, after, reach, Runs, words_next, end_done, next_small, slept_by, slept_at, slept_in, End, Agree, after_thread, after_mutex, agree_trans, agree_at, covers_at, covers_block, runs_same, runs_apart, DidTurns, Act, Done, outcome_done, end_rule}
-use Rattle.tc_context.specs.Middle.{DidTurn}
+use Rattle.tc_context.proofs.Vocabulary.{◌≡◌, ℕ, ◌+◌, ◌-◌, ◌<◌, ◌≤◌, Bool, true, false, ◌&&◌, ◌++◌, length, refl, sym, ap, subst, ◌∙◌, arith, add-one, zero, suc, Option, Some, None, nat_lt, is_some, if◌then◌else◌, option_map, has, MAX_TURNS, Shown, Thread, is_running, next_lock, outcome_of, LockView, Journal, lock_in, mutex_or, Context, thread_in, mutex_at, whole, set_of, journal_at, Keeps, CanGo}
+use Rattle.tc_context.proofs.Vocabulary.{block_locks, RunsAs, act_in, IsTurn, noted_when, words_of, AreOpen, HasRoom, AreNoted, GoesOn, MayTurn, nat_tests, word_of, word_short, words_short, word_same, map_some, option_map-id, option_map-twice, done_of, Covers, MayRun, next_free, covers_on, held_on, went_on, goes_on, State, is_free, is_open, can_turn, after, reach, Runs, words_next, end_done}
+use Rattle.tc_context.proofs.Vocabulary.{next_small, slept_by, slept_at, slept_in, End, Agree, after_thread, after_mutex, agree_trans, agree_at, covers_at, covers_block, runs_same, runs_apart, DidTurns, Act, Done, outcome_done, end_rule, DidTurn, Lock, Sleep}
 use Rattle.tc_turn.proofs.InPlace.{same_outcome}
 pub use Rattle.tc_mutex_spec.proofs.Going.{block_inside, no_cut}
 use Rattle.tc_mutex_spec.proofs.Within.{AreWithin, within_start, within_more, within_ends, IsTold, turn_told}
 use Rattle.tc_context.proofs.Moved.{when_nil, when_more, when_open}
 use Rattle.tc_exec.specs.declared.outcome.Act.TheVariants.{Next, Called}
-use Rattle.tc_exec.specs.declared.outcome.Call.TheVariants.{Lock, Sleep}
 use Rattle.tc_journal.specs.declared.rule.Outcome.{Outcome}
 use Rattle.tc_journal.specs.declared.rule.Outcome.TheVariants as outcome
 use Rattle.tc_exec.specs.declared.outcome.Done.TheVariants as done
@@ -72,10 +71,9 @@ module _ {image : Shown} {block : ℕ → Bool} {old now new : Context} {n : ℕ
   further =
       let t = old.thread in
       let set = set_of old in
-      let moved = agree_at now.thread t (set_of now) set _ (whole new) partway.keeps.thread partway.keeps.set (agree_moved image block now new turn) in
       turn_told image (whole old) t n set (whole now) (whole new) (covers_at image (set_of now) set (thread_in now) partway.keeps.set partway.go.covers)
       (ap (can_turn image (whole now)) (sym partway.keeps.thread) ∙ goes image now partway.go) partway.agree
-      (subst (λ u. Agree t set (after image (whole now) u) (whole new)) partway.keeps.thread moved)
+      (subst (λ u. Agree t set (after image (whole now) u) (whole new)) partway.keeps.thread (agree_at now.thread t (set_of now) set _ (whole new) partway.keeps.thread partway.keeps.set (agree_moved image block now new turn)))
 
   -- the turn's words are noted
   pub noted_next : AreNoted image block (n + 1) old new
@@ -180,11 +178,7 @@ module _ {image : Shown} {block : ℕ → Bool} {old now : Context} {n : ℕ} (m
 -- a turn that ends no block went on
 went_by : (o : Outcome) (n : ℕ) (next : Option ℕ) → end_rule o n next ≡ None → o ≡ outcome.Went
 went_by outcome.Went n next e = refl
-went_by outcome.Exited n next e = absurd (cc)
-went_by (outcome.Faulted f) n next e = absurd (cc)
-went_by outcome.Spent n next e = absurd (cc)
-went_by (outcome.Unlocked lock) n next e = absurd (cc)
-went_by outcome.Slept n next e = absurd (cc)
+went_by _ n next e = absurd (cc)
 
 -- a LOCK goes on
 pub went_lock : {image : Shown} {block : ℕ → Bool} {old new : Context} {lock : ℕ} → DidTurn image block old new (Some (done.Called (Lock lock))) → outcome_of (act_in image old) ≡ outcome.Went
@@ -258,9 +252,8 @@ on_ends {image = image} {block = block} {old = old} {now = now} (suc n) {lock = 
     let partway = on.1 in
     let turn = on.2 in
     let rule_n : end_rule outcome.Went (suc n) (next_lock image (thread_in now)) ≡ Some end = ap (end_rule outcome.Went (suc n)) (sym next) ∙ rule in
-    let ends = (λ i. end_rule (on.3 i) (e i) (next_lock image (thread_in now))) ∙ rule_n in
     record {
-      runs = subst (λ m. RunsAs image old now m end) e (partway_ends partway turn ends may.go);
+      runs = subst (λ m. RunsAs image old now m end) e (partway_ends partway turn ((λ i. end_rule (on.3 i) (e i) (next_lock image (thread_in now))) ∙ rule_n) may.go);
       most = (let short = partway.short in omega arith);
       ends = end_done (Some done.Went) (suc n) (next_lock image (thread_in now)) end tt (next_small image (thread_in now) may.go.guards) rule_n;
       sleeps = sym (sleeps_not (act_in image on.0) on.3) ∙ partway_slept partway turn ∙ ap (slept_in image old) e;
@@ -268,12 +261,12 @@ on_ends {image = image} {block = block} {old = old} {now = now} (suc n) {lock = 
       follows = next;
     }
 
--- turns that went on and end no block are followed by no LOCK
-pub on_goes : {image : Shown} {block : ℕ → Bool} {old now : Context} (n : ℕ) {lock : Option ℕ} → MayTurn image block MAX_TURNS old → IsOn image block old now n → n ≤ MAX_TURNS → lock ≡ next_lock image (thread_in now) → end_rule outcome.Went n lock ≡ None
-    → Partway image block old now n × (lock ≡ None)
-on_goes {image = image} {now = now} n {lock = lock} may on most next rule =
-    let free = went_on n lock rule in
-    (on_free may n now on (omega (arith, most, free.1)) (sym next ∙ free.0), free.0)
+-- turns that went on, some of them before a run and the others of it, and end no block are followed by no LOCK
+pub on_goes : {image : Shown} {block : ℕ → Bool} {old : Context} (c n : ℕ) (now new : Context) {lock : Option ℕ} → MayTurn image block MAX_TURNS old → IsOn image block old now c → GoesOn image block n now new → c + n ≤ MAX_TURNS → lock ≡ next_lock image (thread_in new)
+    → end_rule outcome.Went (c + n) lock ≡ None → Partway image block old new (c + n) × (lock ≡ None)
+on_goes c n now new {lock = lock} may on goes most next rule =
+    let free = went_on (c + n) lock rule in
+    (on_free may (c + n) new (on_run may c n now new on most goes) (omega (arith, most, free.1)) (sym next ∙ free.0), free.0)
 
 -- ---- a turn that is told
 

@@ -1,5 +1,5 @@
 -- The room that a package's locks have.
-use Rattle.std.proofs.Common.{◌≡◌, ℕ, ◌-◌, ◌≤◌, Bool, true, false, not, ◌==◌, ◌&&◌, List, length, refl, sym, ap, subst, ◌∙◌, inl, inr, arith, Option, Some, if◌then◌else◌}
+use Rattle.std.proofs.Common.{◌≡◌, ℕ, ◌-◌, ◌≤◌, Bool, true, false, List, length, refl, sym, ap, subst, ◌∙◌, inl, inr, arith, Option, Some, if◌then◌else◌}
 use Rattle.tc_context.proofs.Vocabulary.{option_map, MAX_TURNS, Shown, Block, Journal, LockView, Context, Changed, EachLock, Gives, HasRoomFor, IsPlaced, IsWithin, SameLocks, lock_in, Registers, closed_all, closed_with, sealed_in, sealed_with, with_journal, Journals, entered, entry_of, journal_at, journal_in, whole, eqb_tells, Entry, words_short, map_some, has, Room}
 use Rattle.tc_context.proofs.LockList.{mapped_at, when_field}
 
@@ -8,16 +8,6 @@ pub record Reserved (held left : ℕ → Bool) (old now : List (Option LockView)
   pub same : SameLocks old now
   pub room : (k : ℕ) (l : LockView) → lock_in now k ≡ Some l → held k ≡ true → left k ≡ false → HasRoomFor MAX_TURNS l.journal
 
-pub reserved_on : (held left rest : ℕ → Bool) (n : ℕ) (old mid new : List (Option LockView)) → ((k : ℕ) → rest k ≡ (not (k == n) && left k)) → Reserved held left old mid → SameLocks mid new
-    → ((l : LockView) → lock_in new n ≡ Some l → HasRoomFor MAX_TURNS l.journal) → ((k : ℕ) → (k == n) ≡ false → lock_in new k ≡ lock_in mid k) → Reserved held rest old new
-reserved_on held left rest n old mid new less was same here others = record {
-  same = λ k. same k ∙ was.same k;
-  room = λ k l e h out. elim (eqb_tells k n) [
-    | inl f ↦ here l (ap (lock_in new) (sym f.1) ∙ e)
-    | inr f ↦ was.room k l (sym (others k f.0) ∙ e) h (sym (ap (λ b. not b && left k) f.0) ∙ sym (less k) ∙ out)
-  ];
-}
-
 -- a room is in each lock of a set where a walk over the set has been
 pub record Given (held left : ℕ → Bool) (room most : Room) (now : List (Option LockView)) : Type 0 where
   pub within : IsWithin room most
@@ -25,16 +15,6 @@ pub record Given (held left : ℕ → Bool) (room most : Room) (now : List (Opti
 
 pub gives_less : (room most : Room) (l : LockView) → IsWithin room most → Gives most l → Gives room l
 gives_less room most l within gives = (let entries = within.entries in let words = within.words in let e = gives.entries in let w = gives.words in record { entries = omega (arith, entries, e); words = omega (arith, words, w) })
-
-pub given_on : (held left rest : ℕ → Bool) (n : ℕ) (room was most : Room) (locks : List (Option LockView)) → ((k : ℕ) → rest k ≡ (not (k == n) && left k)) → Given held left was most locks → IsWithin room was
-    → ((l : LockView) → lock_in locks n ≡ Some l → Gives room l) → Given held rest room most locks
-given_on held left rest n room was most locks less given within here = record {
-  within = (let a = within.entries in let b = given.within.entries in let c = within.words in let d = given.within.words in record { entries = omega (arith, a, b); words = omega (arith, c, d) });
-  locks = λ k l e h out. elim (eqb_tells k n) [
-    | inl f ↦ here l (ap (lock_in locks) (sym f.1) ∙ e)
-    | inr f ↦ gives_less room was l within (given.locks k l e h (sym (ap (λ b. not b && left k) f.0) ∙ sym (less k) ∙ out))
-  ];
-}
 
 abbrev pub EachGives : Room → List (Option LockView) → Type 0
 EachGives room locks = EachLock (λ k l. Gives room l) locks

@@ -1,20 +1,15 @@
 -- What running a block makes of a package, and sealing it.
-use Rattle.std.proofs.Common.{◌≡◌, ℕ, ◌-◌, ◌<◌, ◌≤◌, Bool, true, false, not, ◌||◌, ◌&&◌, ◌==◌, List, [], ◌∷◌, ◌++◌, map, length, refl, sym, ap, subst, ◌∙◌, inl, inr, set, arith, Option, Some, None, is_some, if◌then◌else◌, IfSome, slice_get, length-set}
-use Rattle.tc_context.proofs.Vocabulary.{option_map, has, Shown, is_section, begins, is_lock, takes_of, last_of, may_go_on, ends_section, passes_to, Block, Thread, is_running, next_lock, LockView, IsStrict, Journal, last_finish, block_in, blocks_of, with_journal, sealed_block, sealed_entry, sealed_list, sealed_as, eqb_tells, Entry, map_some, some_map, some_of, next_free, State, locks_of_block, reach, Runs, Grant, record_takes, block_survives, block_gives, block_inside, in_block, DidRun, slept_at, not-false, map-append, length-map, slice_get-map, slice_get_within, eq_self}
-use Rattle.tc_context.proofs.Vocabulary.{Context, lock_in, AreOf, slot_of, when_in, Changed, sealed_all, sealed_in, EachHeld, CanSeal, thread_in, whole, set_of, AreEnded, journal_in, journal_at, CanGo, RunsAs, entry_of, with_entry, entered, Journals, IsReady, AreReady, PackageView, granted_lock, kind_of, waiting_in, eqb_tells, Entry, map_some, some_map, some_of, next_free, State, locks_of_block, reach, Runs, Grant, record_takes, block_survives, block_gives, block_inside, in_block, DidRun, slept_at, not-false, map-append, length-map, slice_get-map, slice_get_within, eq_self}
-use Rattle.tc_context.proofs.Vocabulary.{IsReserved, IsPending, IsStored, IsAfter, IsLeft, IsGranted, MayTake, IsSoundPackage, Allows, fits_in, fits_granted, fits_of, WantIsGranted, IsIdle, IsAt, EndsWith, sealed_log, with_seal, eqb_tells, Entry, map_some, some_map, some_of, next_free, State, locks_of_block, reach, Runs, Grant, record_takes, block_survives, block_gives, block_inside, in_block, DidRun, slept_at, not-false, map-append, length-map, slice_get-map, slice_get_within, eq_self}
+use Rattle.tc_context.proofs.Vocabulary.{◌≡◌, ℕ, ◌-◌, ◌<◌, ◌≤◌, Bool, true, false, not, ◌||◌, ◌&&◌, ◌==◌, List, [], ◌∷◌, ◌++◌, map, length, refl, sym, ap, subst, ◌∙◌, inl, inr, set, arith, Option, Some, None, is_some, if◌then◌else◌, IfSome, slice_get, length-set, option_map, has, Shown, is_section, begins, is_lock, takes_of, last_of, may_go_on, ends_section, passes_to, Block, Thread, is_running}
+use Rattle.tc_context.proofs.Vocabulary.{next_lock, LockView, IsStrict, Journal, last_finish, block_in, blocks_of, with_journal, sealed_block, sealed_entry, sealed_list, sealed_as, eqb_tells, Entry, map_some, some_map, some_of, next_free, State, locks_of_block, reach, Runs, Grant, record_takes, block_survives, block_gives, block_inside, in_block, DidRun, slept_at, not-false, map-append}
+use Rattle.tc_context.proofs.Vocabulary.{length-map, slice_get_within, eq_self, Context, lock_in, AreOf, when_in, Changed, sealed_all, sealed_in, EachHeld, CanSeal, thread_in, whole, set_of, AreEnded, journal_in, journal_at, CanGo, RunsAs, entry_of, with_entry, entered, Journals, IsReady, AreReady, PackageView, granted_lock, kind_of, waiting_in, IsReserved, IsPending, IsStored, IsAfter, IsLeft}
+use Rattle.tc_context.proofs.Vocabulary.{IsGranted, MayTake, IsSoundPackage, Allows, fits_in, fits_granted, fits_of, WantIsGranted, IsIdle, IsAt, EndsWith, sealed_log, with_seal, Running, last_more, closes_sealed, EachLock, IsUnsealed, Opened, Registers, closed_all, closed_with, entry_from, sealed_with}
 use Rattle.tc_journal.specs.Batch.{allows_of, passes_on, may_follow}
-use Rattle.tc_turn.specs.declared.status.Status.TheVariants.{Running}
-use Rattle.tc_journal.proofs.Batching.{last_more}
-use Rattle.tc_context.proofs.LockList.{mapped_at, when_field, locks_ext}
 use Rattle.tc_mutex_spec.proofs.Leaving.{block_runs, block_next, block_cut, block_releases, block_covered}
 use Rattle.tc_journal.specs.History.{IsBlock}
-use Rattle.tc_context.proofs.Staging.{both_ways, left_few, rests_as, are_of, idle_at, closed_none, grant_of, goes_on}
+use Rattle.tc_context.proofs.Staging.{both_ways, left_few, rests_as, are_of, idle_at, closed_none, grant_of, goes_on, mapped_at, when_field, locks_ext}
 use Rattle.tc_mutex_spec.proofs.Few.{block_few}
 use Rattle.tc_context.proofs.Blocked.{record_is}
 use Rattle.tc_journal.proofs.Lists.{get-set_same}
-use Rattle.tc_segment.proofs.Sealing.{closes_sealed}
-use Rattle.tc_context.proofs.Vocabulary.{EachLock, IsUnsealed, Opened, Registers, closed_all, closed_with, entry_from, sealed_with}
 
 -- what a package needs for a block, beside room
 pub record MayRun (image : Shown) (p : PackageView) : Type 0 where
@@ -308,8 +303,7 @@ seal_set stamp worker p k = ap is_some (sealed_at stamp worker p.context.locks k
 
 last_set : (xs : List Block) (b y : Block) → last_of xs ≡ Some b → last_of (set xs (length xs - 1) y) ≡ Some y
 last_set xs b y is =
-    let lt = slice_get_within xs (length xs - 1) b is in
-    ap (λ n. slice_get (set xs (length xs - 1) y) (n - 1)) (length-set xs (length xs - 1) y) ∙ get-set_same xs (length xs - 1) y lt
+    ap (λ n. slice_get (set xs (length xs - 1) y) (n - 1)) (length-set xs (length xs - 1) y) ∙ get-set_same xs (length xs - 1) y (slice_get_within xs (length xs - 1) b is)
 
 module _ (p : PackageView) (b : Block) (stamp worker : ℕ) (sound : IsSoundPackage p) (pending : p.pending ≡ Some b) where
   abbrev q : PackageView
@@ -385,9 +379,7 @@ module _ (b : Block) (stamp worker : ℕ) (regs : Registers) (old new : List (Op
   one k l u true h = (let s = once l.journal.sealed l.journal.opened in λ i. record l { journal = record l.journal { sealed = s i; closed = None; opened = None } })
   one k l u false out =
       let none = u.others out in
-      let closed = u.closed in
-      let s = ap (λ o. sealed_list stamp worker l.journal.sealed (option_map (entry_from b regs) o)) none in
-      λ i. record l { journal = record l.journal { sealed = sym s i; closed = closed i; opened = none i } }
+      λ i. record l { journal = record l.journal { sealed = sym (ap (λ o. sealed_list stamp worker l.journal.sealed (option_map (entry_from b regs) o)) none) i; closed = u.closed i; opened = none i } }
 
   each : (k : ℕ) (o : Option LockView) → lock_in old k ≡ o → option_map (sealed_in (has b.held) (sealed_block stamp worker b) regs k) o ≡ option_map (with_journal (sealed_as stamp worker)) (option_map (with_journal (closed_with b regs)) o)
   each k None e = refl
@@ -402,5 +394,4 @@ pub seal_is : (p : PackageView) (l : IsLast p) (stamp worker len room : ℕ) (lo
     → record p { context = record { thread = p.context.thread; guest = p.context.guest; locks = locks }; pending = None; log = log; log_room = room } ≡ with_seal stamp worker p
 seal_is p l stamp worker len room log locks sound count places changed logged roomy =
     let same = locks_ext locks (sealed_all stamp worker p.context.locks) (places ∙ sym sound.places.0 ∙ sym (length-map p.context.locks (option_map (with_journal (sealed_as stamp worker))))) (λ k. changed k ∙ sym (sealed_at stamp worker p.context.locks k)) in
-    let sealed = logged ∙ ap (λ n. set p.log (n - 1) (sealed_block stamp worker l.block)) count ∙ ap (sealed_log stamp worker p.log) (sym l.pending) in
-    λ i. record p { context = record { thread = p.context.thread; guest = p.context.guest; locks = same i }; pending = None; log = sealed i; log_room = roomy i }
+    λ i. record p { context = record { thread = p.context.thread; guest = p.context.guest; locks = same i }; pending = None; log = (logged ∙ ap (λ n. set p.log (n - 1) (sealed_block stamp worker l.block)) count ∙ ap (sealed_log stamp worker p.log) (sym l.pending)) i; log_room = roomy i }

@@ -1,17 +1,15 @@
 -- What a package keeps, through each of its calls.
-use Rattle.std.proofs.Common.{◌≡◌, ℕ, ◌<◌, ◌≤◌, Bool, true, false, not, ◌||◌, ◌&&◌, ◌==◌, List, map, filter, length, refl, sym, ap, subst, ◌∙◌, arith, inl, inr, Option, Some, None, IfSome, is_some, slice_index_or, set, if◌then◌else◌, length-set, get_or-set_same, get_or-set_other}
-use Rattle.tc_context.proofs.Vocabulary.{option_map, has, Shown, is_section, last_of, may_go_on, ends_section, passes_to, passes_on, Block, Thread, is_running, next_lock, LockView, IsAtRest, kept, block_in, blocks_of, Context, lock_in, AreOf, Changed, IsPlaced, SameLocks, thread_in, set_of, PackageView, granted_lock, eqb_tells, Entry, locks_of, next_free, next_known, next_by_own, Grant, running_is, eq_self, End, Kind}
-use Rattle.tc_context.proofs.Vocabulary.{want_of, number_in, waiting_in, IsNumber, IsFresh, EndsSection, IsIdle, IsAt, IsStored, IsLeft, EndsWith, IsGranted, MayPassTo, MayTake, IsSoundPackage, IsWanted, LastIsSealed, IsWaiting, IsRoomier, with_grant, without_lock, guest_in, locks_with, pending_in, context_with, view_of, view_with, KeptPackage, AreEnded, EachLock, HasRoomFor, MAX_TURNS, IsUnsealed, Closes, Registers, closed_all, closed_with, shut, with_journal, length-map, eqb_tells, Entry, locks_of, next_free, next_known, next_by_own, Grant, running_is, eq_self, End, Kind}
-use Rattle.std.specs.Prelude.{vec_len, vec_capacity}
+use Rattle.std.proofs.Common.{◌≡◌, ℕ, ◌<◌, ◌≤◌, Bool, true, false, not, ◌||◌, ◌&&◌, ◌==◌, List, map, filter, length, refl, sym, ap, subst, ◌∙◌, arith, inl, inr, Option, Some, None, IfSome, is_some, slice_index_or, set, if◌then◌else◌, length-set, get_or-set_same, get_or-set_other, vec_len, vec_capacity}
+use Rattle.tc_context.proofs.Vocabulary.{option_map, has, Shown, is_section, last_of, may_go_on, ends_section, passes_to, passes_on, Block, Thread, is_running, next_lock, LockView, IsAtRest, kept, block_in, blocks_of, Context, lock_in, AreOf, Changed, IsPlaced, SameLocks, thread_in, set_of, PackageView, granted_lock, eqb_tells, Entry, locks_of, next_free, next_known, next_by_own, Grant}
+use Rattle.tc_context.proofs.Vocabulary.{running_is, eq_self, End, Kind, want_of, number_in, waiting_in, IsNumber, IsFresh, EndsSection, IsIdle, IsAt, IsStored, IsLeft, EndsWith, IsGranted, MayPassTo, MayTake, IsSoundPackage, IsWanted, LastIsSealed, IsWaiting, IsRoomier, with_grant, without_lock, guest_in, locks_with, pending_in, context_with, view_of, view_with, KeptPackage, AreEnded, EachLock}
+use Rattle.tc_context.proofs.Vocabulary.{HasRoomFor, MAX_TURNS, IsUnsealed, Closes, Registers, closed_all, closed_with, shut, with_journal, length-map, MAX_HELD, Contents}
 use Rattle.std.specs.List.{range_with_len}
-use Rattle.tc_isa.specs.declared.limits.TheConstants.{MAX_HELD}
 use Rattle.tc_turn.proofs.Few.{fewer}
 pub use Rattle.std.proofs.lemmas.Bool.{and_parts, both_ways}
 use Rattle.tc_journal.specs.Handing.{is_cut, was_cut}
-use Rattle.tc_journal.specs.declared.block.End.TheVariants.{Wants, Unlocked, Slept, Cut, Exit, Fault, Spent}
+use Rattle.tc_journal.specs.declared.block.End.TheVariants.{Cut}
 pub use Rattle.tc_mutex_spec.proofs.OptionLaws.{map_some, some_map, some_of, option_map-twice, then_some, else_some}
-use Rattle.tc_context.specs.declared.package.Contents.{Contents}
-use Rattle.tc_context.proofs.LockList.{mapped_at, with_locks, put_place}
+pub use Rattle.tc_context.proofs.LockList.{mapped_at, with_locks, put_place, locks_ext, when_field}
 
 -- the contents of a box are those that the package shows
 pub record Shows (a : Contents) (v : PackageView) : Type 0 where
@@ -169,13 +167,8 @@ fresh_sound image t fuel p fresh lt few places numbers =
 -- ---- what wants a lock was not cut
 
 other_cut : (e : End) → (e ≡ Cut → ⊥) → is_cut e ≡ false
-other_cut (Wants k) ne = refl
-other_cut (Unlocked k) ne = refl
-other_cut Slept ne = refl
 other_cut Cut ne = absurd (ne refl)
-other_cut Exit ne = refl
-other_cut (Fault f) ne = refl
-other_cut Spent ne = refl
+other_cut _ ne = refl
 
 next_of : (runs : Bool) (next : Option ℕ) (k : ℕ) → (if runs then next else None) ≡ Some k → next ≡ Some k
 next_of true next k e = e

@@ -1,10 +1,11 @@
 -- A turn of a run, whatever fuel there is, is a turn of the package.
-use Rattle.std.proofs.Common.{◌≡◌, ℕ, suc, ◌-◌, ◌<◌, ◌≤◌, Bool, true, false, ◌==◌, List, refl, sym, ap, subst, ◌∙◌, arith, Option, Some, None, is_some, if◌then◌else◌}
+use Rattle.tc_context.proofs.Vocabulary.{◌≡◌, ℕ, suc, ◌-◌, ◌<◌, ◌≤◌, Bool, true, false, ◌==◌, List, refl, sym, ap, subst, ◌∙◌, arith, Option, Some, None, is_some, if◌then◌else◌, Next, option_map, has, Shown, Thread, Guest, thread_of, thread_after, outcome_of, answer_to, LockView, lock_in, Context, AreOf, Changed, EachHeld, TurnFits, TurnReady, noted_in, turned, thread_in, mutex_at, journal_in}
+use Rattle.tc_context.proofs.Vocabulary.{act_in, GoesOn, IsStep, nat_tests, option_map-id, Registers, with_register, region_of, Region, load_width, store_width, extended, put_at, at_next, done_of, act_of, wants_of, taken_by, Put, Want, open_want, open_load, open_store, IsPlain, IsLoad, IsStore, IsOwnLoad, IsOwnStore, Covers, answer_of, own_after, MayRun, IsGone, HasGone, fuelled}
 use Rattle.tc_isa.specs.declared.instr.LoadKind.{LoadKind}
 use Rattle.tc_isa.specs.declared.instr.StoreKind.{StoreKind}
 use Rattle.tc_elf.specs.declared.image.Region.TheVariants as region
+use Rattle.tc_exec.specs.Flow.{set}
 use Rattle.tc_exec.specs.Touch.{is_own, IsTouched}
-use Rattle.tc_exec.specs.declared.outcome.Act.TheVariants.{Next}
 use Rattle.tc_exec.specs.declared.outcome.Done.TheVariants as done
 use Rattle.tc_exec.specs.declared.outcome.Want.TheVariants as want
 use Rattle.tc_exec.specs.declared.touch.Touched.{Touched}
@@ -12,7 +13,6 @@ use Rattle.tc_exec.specs.declared.touch.Touched.TheVariants as touched
 use Rattle.tc_exec.proofs.Loaded.{set_steps}
 use Rattle.tc_turn.proofs.OwnTurns.{none_next, next_is, own_answer, own_put}
 use Rattle.tc_context.specs.declared.run.Way.TheVariants as way
-use Rattle.tc_context.proofs.Vocabulary.{option_map, has, Shown, Thread, Guest, thread_of, thread_after, outcome_of, answer_to, LockView, lock_in, Context, AreOf, Changed, EachHeld, TurnFits, TurnReady, noted_in, turned, thread_in, mutex_at, journal_in, act_in, GoesOn, IsStep, nat_tests, option_map-id, Registers, with_register, region_of, Region, load_width, store_width, extended, put_at, at_next, set, done_of, act_of, wants_of, taken_by, Put, Want, open_want, open_load, open_store, IsPlain, IsLoad, IsStore, IsOwnLoad, IsOwnStore, Covers, answer_of, own_after, MayRun, IsGone, HasGone, fuelled}
 use Rattle.tc_context.proofs.Partway.{may_more}
 use Rattle.tc_context.proofs.Moved.{none_noted, turn_from, turn_ready, turn_fits}
 
@@ -22,20 +22,16 @@ went_in held locks k = sym (option_map-id (turned held (Some done.Went) k) (lock
 
 -- nor does a store in the thread's own memory
 own_turned : (place : Region) (held : ℕ → Bool) (addr width value : ℕ) (locks : List (Option LockView)) → is_own place ≡ true → Changed (turned held (Some (done.Stored (put_at place addr width value)))) locks locks
-own_turned region.Text held addr width value locks e = absurd (cc)
 own_turned region.Private held addr width value locks e = λ k. sym (option_map-id (turned held (Some (done.Stored (put_at region.Private addr width value))) k) (lock_in locks k) (λ l. refl))
 own_turned region.Stack held addr width value locks e = λ k. sym (option_map-id (turned held (Some (done.Stored (put_at region.Stack addr width value))) k) (lock_in locks k) (λ l. refl))
-own_turned (region.Guard lock) held addr width value locks e = absurd (cc)
-own_turned region.Nothing held addr width value locks e = absurd (cc)
+own_turned _ held addr width value locks e = absurd (cc)
 
 -- a number of the thread's own memory is noted wherever it is
 own_noted : (place : Region) (block : ℕ → Bool) (addr width number : ℕ) (old new : List (Option LockView)) → is_own place ≡ true → Changed (noted_in block (want.Load region.Private 0 1) None number) old new
     → Changed (noted_in block (want.Load place addr width) None number) old new
-own_noted region.Text block addr width number old new e changed = absurd (cc)
 own_noted region.Private block addr width number old new e changed = changed
 own_noted region.Stack block addr width number old new e changed = changed
-own_noted (region.Guard lock) block addr width number old new e changed = absurd (cc)
-own_noted region.Nothing block addr width number old new e changed = absurd (cc)
+own_noted _ block addr width number old new e changed = absurd (cc)
 
 -- with fuel there is a next turn
 filled : (left : ℕ) → 0 < left → (left == 0) ≡ false
@@ -128,8 +124,7 @@ pub store_may : (image : Shown) (block : ℕ → Bool) (n : ℕ) (p : Context) (
 store_may image block n p next put may acts =
     let d = thread_in (fuelled 1 p) in
     let act = ap Some (acts 0) in
-    let none = none_next image d refl (ap taken_by (acts 0)) in
-    let covers : Covers image block d = record { held = may.held; next = λ k e. absurd (let no = sym none ∙ e in cc) } in (
+    let covers : Covers image block d = record { held = may.held; next = λ k e. absurd (let no = sym (none_next image d refl (ap taken_by (acts 0))) ∙ e in cc) } in (
       turn_fits image d 0 (Some (Next next (Some put))) act may.guards,
       λ k l found. turn_ready image block d 0 (Some (Next next (Some put))) act covers k l (may.of k l found) (λ h. may.opened k l.journal (ap (option_map journal_in) found) h),
     )

@@ -1,9 +1,6 @@
 -- An access whose place is the guard of a lock lies in that guard.
-use Rattle.std.proofs.Common.{◌≡◌, ℕ, ◌<◌, Bool, true, false, not, ◌&&◌, cond, length, nat_lt, refl, sym, ap, subst, ◌∙◌, arith}
-use Rattle.tc_segment.proofs.Vocabulary.{Shown, guard_at, nat_tests}
-use Rattle.std.specs.Prelude.{Some, None, if◌then◌else◌}
+use Rattle.tc_segment.proofs.Vocabulary.{◌≡◌, ℕ, ◌<◌, Bool, true, false, not, ◌&&◌, cond, length, nat_lt, refl, sym, ap, subst, ◌∙◌, arith, Some, None, if◌then◌else◌, Shown, guard_at, nat_tests, option_map_or}
 use Rattle.std.specs.List.{list_any, position_or_len}
-use Rattle.std.specs.Option.{option_map_or}
 use Rattle.std.proofs.lemmas.List.Sums.{passes_at_first}
 use Rattle.tc_elf.specs.Places.{lies_in, in_text, in_writable, touches, in_guard, unguarded_region, region_of}
 use Rattle.tc_elf.specs.declared.limits.TheConstants.{STACK_START, STACK_LENGTH}
@@ -23,8 +20,7 @@ pub guard_has : (image : Shown) (lock addr width : ℕ) → region_of image addr
 unfolding region_of
 guard_has image lock addr width e =
     let first = position_or_len (in_guard addr width) image.guards in
-    let other = unguarded_region image addr width in
-    (elim (nat_lt first (length image.guards)) as (λ b. nat_lt first (length image.guards) ≡ b → option_map_or region.Guard (cond b (Some first) None) other ≡ region.Guard lock → LiesInGuard image lock addr width) [
+    (elim (nat_lt first (length image.guards)) as (λ b. nat_lt first (length image.guards) ≡ b → option_map_or region.Guard (cond b (Some first) None) (unguarded_region image addr width) ≡ region.Guard lock → LiesInGuard image lock addr width) [
       | true ↦ λ found is.
           let same : first ≡ lock = cc in
           let low : first < length image.guards = grind (arith, nat_tests) in

@@ -1,6 +1,5 @@
 -- Journals that grow.
-use Rattle.std.proofs.Common.{◌≡◌, ℕ, List, [], ◌∷◌, ◌++◌, refl}
-use Rattle.tc_segment.proofs.Vocabulary.{AreReplayed, Entry, Mutex, Replays, Shown, replay_entry, replayed}
+use Rattle.tc_segment.proofs.Vocabulary.{◌≡◌, ℕ, List, [], ◌∷◌, ◌++◌, refl, AreReplayed, Entry, Mutex, Replays, Shown, replay_entry, replayed}
 
 pub replayed-more : (image : Shown) (lock : ℕ) (old : Mutex) (es : List Entry) (e : Entry) → replayed image lock old (es ++ e ∷ []) ≡ replay_entry image lock e (replayed image lock old es)
 replayed-more image lock old [] e = refl

@@ -1,8 +1,7 @@
 -- What a lock state keeps through its calls.
-use Rattle.std.proofs.Common.{◌≡◌, ℕ, zero, suc, ◌+◌, ◌-◌, Bool, true, false, ◌||◌, List, [], ◌∷◌, ◌++◌, map, set, length, take, drop, refl, sym, ap, subst, ◌∙◌, ◌<◌, ◌≤◌, arith, length-drop, length-append, inl, inr}
-use Rattle.tc_segment.proofs.Vocabulary.{AllFit, AreReplayed, Block, Closes, Entry, Extends, Fits, IsSoundLock, LockView, Mutex, OpenFits, Opened, Opening, Record, Registers, Replays, Shown, closed_with, entries, fresh_state, guard_at, lock_of, more_words, mutex_at_start, noted, opened_at, regs_at, replay_entry, replayed, shown, shown_journal, shown_open, with_closed, End, ends_thread, grounds, take_all, drop_all, take-append-le, drop-append-le, slice_get-get_or, slice_get_cases, replay_in, entry_from, strict_as, starting_byte}
-use Rattle.tc_segment.proofs.Vocabulary.{with_journal, take_all, drop_all, take-append-le, drop-append-le, slice_get-get_or, slice_get_cases, replay_in, entry_from, strict_as, starting_byte}
-use Rattle.std.specs.Prelude.{Option, Some, None, option_map, is_some, slice_get, if◌then◌else◌}
+use Rattle.std.proofs.Common.{◌≡◌, ℕ, zero, suc, ◌+◌, ◌-◌, Bool, true, false, ◌||◌, List, [], ◌∷◌, ◌++◌, map, set, length, take, drop, refl, sym, ap, subst, ◌∙◌, ◌<◌, ◌≤◌, arith, length-drop, length-append, inl, inr, Option, Some, None, option_map, is_some, slice_get, if◌then◌else◌}
+use Rattle.tc_segment.proofs.Vocabulary.{AllFit, AreReplayed, Block, Closes, Entry, Extends, Fits, IsSoundLock, LockView, Mutex, OpenFits, Opened, Opening, Record, Registers, Replays, Shown, closed_with, entries, fresh_state, guard_at, lock_of, more_words, mutex_at_start, noted, opened_at, regs_at, replay_entry, replayed, shown, shown_journal, shown_open, with_closed, End, ends_thread, grounds}
+use Rattle.tc_segment.proofs.Vocabulary.{IsStrict, Obeys, PassesOn, block_in, take_all, drop_all, take-append-le, drop-append-le, slice_get-get_or, slice_get_cases, replay_in, entry_from, strict_as, starting_byte, with_journal}
 use Rattle.std.proofs.Math.Seq.{get_or-append_seam}
 use Rattle.std.proofs.lemmas.List.FromFn.{length-map-range_with_len}
 use Rattle.tc_isa.specs.declared.limits.TheConstants.{MAX_BATCH}
@@ -44,26 +43,20 @@ fits_grown grows (r ∷ rs) fit = (fits_one grows r fit.0, fits_grown grows rs f
 
 shown_one : {edges more : List ℕ} {words longer : List ℕ} → Grows edges more words longer → (r : Record) → Fits edges words r → shown more longer r ≡ shown edges words r
 shown_one grows r fits =
-    let start = grows.regs.same r.start fits.start in
-    let finish = grows.regs.same r.finish fits.finish in
     let order = fits.order in
     let inside = fits.inside in
-    let foreign = grows.same r.from (r.to - r.from) (omega arith) in
-    λ i. record { block = r.block; start = start i; fuel = r.fuel; finish = finish i; foreign = foreign i }
+    λ i. record { block = r.block; start = (grows.regs.same r.start fits.start) i; fuel = r.fuel; finish = (grows.regs.same r.finish fits.finish) i; foreign = (grows.same r.from (r.to - r.from) (omega arith)) i }
 
 pub shown_grown : {edges more : List ℕ} {words longer : List ℕ} → Grows edges more words longer → (rs : List Record) → AllFit edges words rs → map (shown more longer) rs ≡ map (shown edges words) rs
 shown_grown grows [] fit = refl
 shown_grown grows (r ∷ rs) fit =
-    let e = shown_one grows r fit.0 in
-    let es = shown_grown grows rs fit.1 in
-    λ i. e i ∷ es i
+    λ i. (shown_one grows r fit.0) i ∷ (shown_grown grows rs fit.1) i
 
 -- an open entry has the words that come
 open_more : (from : Mutex) (edges : List ℕ) (words ws : List ℕ) (o : Option Opening) → OpenFits edges words o → option_map (shown_open from edges (words ++ ws)) o ≡ option_map (more_words ws) (option_map (shown_open from edges words) o)
 open_more from edges words ws None fit = refl
 open_more from edges words ws (Some o) fit =
-    let e = drop-append-le o.from words ws fit.1 in
-    λ i. Some (record { start = regs_at edges o.start; fuel = o.fuel; from = from; foreign = e i })
+    λ i. Some (record { start = regs_at edges o.start; fuel = o.fuel; from = from; foreign = (drop-append-le o.from words ws fit.1) i })
 
 pub open_fits-more : (edges : List ℕ) (words ws : List ℕ) (o : Option Opening) → OpenFits edges words o → OpenFits edges (words ++ ws) o
 open_fits-more edges words ws None fit = tt
@@ -91,8 +84,7 @@ pub noted_journal : (image : Shown) (number limit : ℕ) (strict : Bool) (old ne
     → shown_journal (grounds image number limit strict edges (words ++ value ∷ [])) new sealed opened er (wr - 1) ≡ noted (value ∷ []) (shown_journal (grounds image number limit strict edges words) old sealed opened er wr)
 noted_journal image number limit strict old new sealed edges words opened er wr value same fits was =
     let os = ap (λ es. option_map (shown_open (replayed image number (mutex_at_start image number) es) edges (words ++ value ∷ [])) opened) same ∙ open_more _ edges words (value ∷ []) opened fits in
-    let room = room_is _ wr was in
-    λ i. record { image = image; limit = limit; strict = strict; sealed = take sealed (same i); closed = slice_get (same i) sealed; opened = os i; entry_room = er; word_room = room i }
+    λ i. record { image = image; limit = limit; strict = strict; sealed = take sealed (same i); closed = slice_get (same i) sealed; opened = os i; entry_room = er; word_room = (room_is _ wr was) i }
 
 noted_from : (ws : List ℕ) (at : Mutex) (p : Option Opened) → ((o : Opened) → p ≡ Some o → o.from ≡ at) → (o : Opened) → option_map (more_words ws) p ≡ Some o → o.from ≡ at
 noted_from ws at None from o e = absurd (cc)
@@ -102,20 +94,18 @@ not_none : (ws : List ℕ) (p : Option Opened) → is_some p ≡ true → option
 not_none ws None was e = cc
 not_none ws (Some p) was e = cc
 
+-- what a lock state keeps, with another journal of the lock whose entries are as they have to be
+pub sound_with : (l : LockView) (sealed : List Entry) (closed : Option Entry) (opened : Option Opened) (entry_room word_room : ℕ) → IsSoundLock l → AreReplayed l.journal.image l.number (mutex_at_start l.journal.image l.number) (with_closed sealed closed)
+    → (opened ≡ None → lock_of l ≡ replayed l.journal.image l.number (mutex_at_start l.journal.image l.number) (with_closed sealed closed)) → ((o : Opened) → opened ≡ Some o → o.from ≡ replayed l.journal.image l.number (mutex_at_start l.journal.image l.number) (with_closed sealed closed))
+    → (is_some opened ≡ true → closed ≡ None) → Obeys l.number l.journal.limit (map block_in sealed) → (IsStrict l → PassesOn l.number (map block_in sealed))
+    → IsSoundLock (record l { journal = record l.journal { sealed = sealed; closed = closed; opened = opened; entry_room = entry_room; word_room = word_room } })
+sound_with l sealed closed opened entry_room word_room sound replays rest from alone obeys passes =
+    record { bytes = sound.bytes; known = sound.known; small = sound.small; guard = sound.guard; limit = sound.limit; replays = replays; rest = rest; from = from; alone = alone; obeys = obeys; passes = passes }
+
 pub sound_noted : (ws : List ℕ) (l : LockView) → IsSoundLock l → is_some l.journal.opened ≡ true → IsSoundLock (with_journal (noted ws) l)
-sound_noted ws l sound was = record {
-  bytes = sound.bytes;
-  known = sound.known;
-  small = sound.small;
-  guard = sound.guard;
-  limit = sound.limit;
-  replays = sound.replays;
-  rest = λ e. absurd (not_none ws l.journal.opened was e);
-  from = noted_from ws (replay_in l.number l.journal) l.journal.opened sound.from;
-  alone = λ h. sound.alone was;
-  obeys = sound.obeys;
-  passes = sound.passes;
-}
+sound_noted ws l sound was =
+    sound_with l l.journal.sealed l.journal.closed (noted ws l.journal).opened l.journal.entry_room (noted ws l.journal).word_room sound sound.replays (λ e. absurd (not_none ws l.journal.opened was e))
+    (noted_from ws (replay_in l.number l.journal) l.journal.opened sound.from) (λ h. sound.alone was) sound.obeys sound.passes
 
 pub last_at : (es : List Entry) (e : Entry) (n : ℕ) → n ≡ length es → slice_get (es ++ e ∷ []) n ≡ Some e
 last_at es e n is = ap (slice_get (es ++ e ∷ [])) is ∙ slice_get-get_or (es ++ e ∷ []) (length es) e (omega (arith, length-append es (e ∷ []))) ∙ ap Some (get_or-append_seam es e [] e)
@@ -126,10 +116,7 @@ not_open f (Some o) e = absurd (cc)
 
 -- where no entry is closed, each is sealed
 pub none_closed : (n : ℕ) (es : List Entry) → n ≤ length es → slice_get es n ≡ None → n ≡ length es
-none_closed n es le none = elim (slice_get_cases es n).1 [
-  | inl x ↦ absurd (let e : None ≡ Some x.0 = sym none ∙ x.2 in cc)
-  | inr y ↦ omega (arith, y.0, le)
-]
+none_closed n es le none = elim (slice_get_cases es n).1 [ inl x ↦ absurd (let e : None ≡ Some x.0 = sym none ∙ x.2 in cc) | inr y ↦ omega (arith, y.0, le) ]
 
 -- an entry is opened
 pub opened_journal : (image : Shown) (number limit : ℕ) (strict : Bool) (old new : List Entry) (sealed : ℕ) (edges more : List ℕ) (words : List ℕ) (er wr place from : ℕ) (start : Registers) (fuel : ℕ) (at : Mutex)
@@ -144,19 +131,9 @@ opened_from : (at m : Mutex) (start : Registers) (fuel : ℕ) (o : Opened) → a
 opened_from at m start fuel o is e = (let same : record { start = start; fuel = fuel; from = at; foreign = [] } ≡ o = cc in ap (λ (x : Opened). x.from) (sym same) ∙ is)
 
 pub sound_opened : (start : Registers) (fuel : ℕ) (l : LockView) → IsSoundLock l → l.journal.opened ≡ None → l.journal.closed ≡ None → IsSoundLock (with_journal (opened_at (lock_of l) start fuel) l)
-sound_opened start fuel l sound none closed = record {
-  bytes = sound.bytes;
-  known = sound.known;
-  small = sound.small;
-  guard = sound.guard;
-  limit = sound.limit;
-  replays = sound.replays;
-  rest = λ e. absurd (cc);
-  from = λ o e. opened_from (lock_of l) (replay_in l.number l.journal) start fuel o (sound.rest none) e;
-  alone = λ h. closed;
-  obeys = sound.obeys;
-  passes = sound.passes;
-}
+sound_opened start fuel l sound none closed =
+    let j = opened_at (lock_of l) start fuel l.journal in
+    sound_with l j.sealed j.closed j.opened j.entry_room j.word_room sound sound.replays (λ e. absurd (cc)) (λ o e. opened_from (lock_of l) (replay_in l.number l.journal) start fuel o (sound.rest none) e) (λ h. closed) sound.obeys sound.passes
 
 -- the entry closed
 pub closed_journal : (image : Shown) (number limit : ℕ) (strict : Bool) (old new : List Entry) (sealed : ℕ) (edges more : List ℕ) (words : List ℕ) (opened : Option Opening) (er wr : ℕ) (o : Opening) (block : Block) (finish : Registers) (place to : ℕ)
@@ -166,14 +143,12 @@ pub closed_journal : (image : Shown) (number limit : ℕ) (strict : Bool) (old n
 closed_journal image number limit strict old new sealed edges more words opened er wr o block finish place to is extends fits there len count made =
     let all : take (to - o.from) (drop o.from words) ≡ drop o.from words = take_all (to - o.from) (drop o.from words) (omega (arith, length-drop o.from words, len)) in
     let from = replayed image number (mutex_at_start image number) old in
-    let start = extends.same o.start fits.0 in
     let x = shown more words (record { block = block; fuel = o.fuel; start = o.start; finish = place; from = o.from; to = to }) in
     let before : take sealed new ≡ take sealed old = ap (take sealed) made ∙ take-append-le sealed old (x ∷ []) (omega (arith, count)) in
     let last : slice_get new sealed ≡ Some x = ap (λ es. slice_get es sealed) made ∙ last_at old x sealed count in
     let entry : Some x ≡ option_map (entry_from block finish) (option_map (shown_open from edges words) opened) =
-    (λ i. Some (record { block = block; start = start i; fuel = o.fuel; finish = there i; foreign = all i })) ∙ ap (λ y. option_map (entry_from block finish) (option_map (shown_open from edges words) y)) (sym is) in
-    let closed = last ∙ entry in
-    λ i. record { image = image; limit = limit; strict = strict; sealed = before i; closed = closed i; opened = None; entry_room = er; word_room = wr }
+    (λ i. Some (record { block = block; start = (extends.same o.start fits.0) i; fuel = o.fuel; finish = there i; foreign = all i })) ∙ ap (λ y. option_map (entry_from block finish) (option_map (shown_open from edges words) y)) (sym is) in
+    λ i. record { image = image; limit = limit; strict = strict; sealed = before i; closed = (last ∙ entry) i; opened = None; entry_room = er; word_room = wr }
 
 -- the end of a thread breaks a lock that is broken no more
 pub ended_broken : (end : End) (broken : Bool) → (ends_thread end ≡ true → broken ≡ true) → (ends_thread end || broken) ≡ broken
@@ -187,21 +162,12 @@ sound_closed block finish l o sound is broken closes =
     let new : with_closed j.sealed (option_map f j.opened) ≡ j.sealed ++ f o ∷ [] = ap (λ x. with_closed j.sealed (option_map f x)) is in
     let old : entries j ≡ j.sealed = ap (with_closed j.sealed) none in
     let before : replayed j.image l.number (mutex_at_start j.image l.number) j.sealed ≡ o.from = ap (replayed j.image l.number (mutex_at_start j.image l.number)) (sym old) ∙ sym (sound.from o is) in
-    record {
-      bytes = sound.bytes;
-      known = sound.known;
-      small = sound.small;
-      guard = sound.guard;
-      limit = sound.limit;
-      replays = subst (λ es. AreReplayed j.image l.number (mutex_at_start j.image l.number) es) (sym new)
-          (are_replayed-more j.image l.number (mutex_at_start j.image l.number) j.sealed (f o) (subst (λ es. AreReplayed j.image l.number (mutex_at_start j.image l.number) es) old sound.replays)
-          (subst (λ m. Replays j.image l.number (f o) m) (sym before) closes.replays));
-      rest = λ e. sym (ap (replayed j.image l.number (mutex_at_start j.image l.number)) new ∙ replayed-more j.image l.number (mutex_at_start j.image l.number) j.sealed (f o) ∙ ap (replay_entry j.image l.number (f o)) before ∙ closes.lock ∙ (let b = ended_broken block.end l.broken broken in λ i. record { bytes = l.bytes; broken = b i; sections = l.sections; owner = None }));
-      from = λ p e. absurd (cc);
-      alone = λ h. absurd (cc);
-      obeys = sound.obeys;
-      passes = sound.passes;
-    }
+    sound_with l j.sealed (option_map f j.opened) None j.entry_room j.word_room sound
+    (subst (λ es. AreReplayed j.image l.number (mutex_at_start j.image l.number) es) (sym new)
+    (are_replayed-more j.image l.number (mutex_at_start j.image l.number) j.sealed (f o) (subst (λ es. AreReplayed j.image l.number (mutex_at_start j.image l.number) es) old sound.replays)
+    (subst (λ m. Replays j.image l.number (f o) m) (sym before) closes.replays)))
+    (λ e. sym (ap (replayed j.image l.number (mutex_at_start j.image l.number)) new ∙ replayed-more j.image l.number (mutex_at_start j.image l.number) j.sealed (f o) ∙ ap (replay_entry j.image l.number (f o)) before ∙ closes.lock ∙ (let b = ended_broken block.end l.broken broken in λ i. record { bytes = l.bytes; broken = b i; sections = l.sections; owner = None })))
+    (λ p e. absurd (cc)) (λ h. absurd (cc)) sound.obeys sound.passes
 
 -- ---- a new lock state
 

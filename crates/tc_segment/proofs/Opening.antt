@@ -1,7 +1,6 @@
 -- An entry that is opened.
-use Rattle.std.proofs.Common.{◌≡◌, ℕ, ◌-◌, ◌<◌, Bool, true, false, map, refl, sym, ap, subst, ◌∙◌, arith}
+use Rattle.std.proofs.Common.{◌≡◌, ℕ, ◌-◌, ◌<◌, Bool, true, false, map, refl, sym, ap, subst, ◌∙◌, arith, Some, None, is_some}
 use Rattle.tc_segment.proofs.Vocabulary.{Contents, Edges, IsSoundLock, KeptLock, LockView, Opening, Registers, StandsBeside, blocks_of, count, entry_room_in, lock_of, mutex_at_start, open_in, Opened, opened_at, option_map, replayed, run_of, shown, shown_journal, view_of, with_journal, grounds, length-map, room_in}
-use Rattle.std.specs.Prelude.{Some, None, is_some}
 use Rattle.tc_segment.proofs.Packing.{stands_is, place_of-stands}
 use Rattle.tc_segment.proofs.Keeping.{edges_more, shown_grown, fits_grown, entries_are, not_open, opened_journal, sound_opened}
 
@@ -29,11 +28,10 @@ opened_view a edges place fuel start k none stands =
     let old = map (shown a.edges.words a.words.items) a.records.items in
     let shut = not_opened a none in
     let all = entries_are a.sealed old (let h = k.closed in omega (arith, length-map a.records.items (shown a.edges.words a.words.items))) in
-    let lock = ap (replayed a.of.value a.number (mutex_at_start a.of.value a.number)) (sym all) ∙ sym (k.sound.rest none) in
     let room : entry_room_in (with_opening a edges place fuel) ≡ entry_room_in a - 1 = (let none : count a.opened ≡ 0 = ap count shut in omega (arith, none)) in
     let j = ap (λ n. shown_journal (grounds a.of.value a.number a.limit a.strict edges.words a.words.items) (map (shown edges.words a.words.items) a.records.items) a.sealed (Some (record { fuel = fuel; start = place; from = a.next.from })) n (room_in a.words)) room
     ∙ opened_journal a.of.value a.number a.limit a.strict old _ a.sealed a.edges.words edges.words a.words.items (entry_room_in a) (room_in a.words) place a.next.from start fuel (lock_of (view_of a))
-    (shown_grown (edges_more a.edges.words edges.words a.words.items stands.more) a.records.items k.records) (stands_is stands.place) (k.from shut) lock
+    (shown_grown (edges_more a.edges.words edges.words a.words.items stands.more) a.records.items k.records) (stands_is stands.place) (k.from shut) (ap (replayed a.of.value a.number (mutex_at_start a.of.value a.number)) (sym all) ∙ sym (k.sound.rest none))
     ∙ ap (λ o. opened_at (lock_of (view_of a)) start fuel (shown_journal (grounds a.of.value a.number a.limit a.strict a.edges.words a.words.items) old a.sealed o (entry_room_in a) (room_in a.words))) (sym (not_open _ (open_in a.opened a.next) none)) in
     λ i. record { number = a.number; bytes = a.bytes.items; broken = a.broken; sections = a.sections; journal = j i }
 

@@ -1,9 +1,7 @@
 -- Registers that are packed, and noted one after another.
-use Rattle.std.proofs.Common.{◌≡◌, ℕ, zero, suc, ◌+◌, ◌-◌, ◌*◌, ◌^◌, ◌/◌, ◌%◌, ◌<◌, ◌≤◌, min, inl, inr, Bool, true, false, ◌==◌, List, [], ◌∷◌, ◌++◌, length, get_or, take, drop, set, refl, ap, sym, subst, ◌∙◌, arith, append_assoc, append-nil, length-append, length-drop, map, not}
-use Rattle.tc_segment.proofs.Vocabulary.{Extends, IsPlace, IsRegisters, Registers, StandsAt, bit_and, mask_of, nonzero, packed, with_register, drop-append-le, get_or-drop, drop-drop, length-take, take-append-drop, take_all, take_more_set, Decides-eqb, cases_lt, spread, regs_at, ArePacked}
-use Rattle.std.specs.Prelude.{slice_index, if◌then◌else◌}
+use Rattle.std.proofs.Common.{◌≡◌, ℕ, zero, suc, ◌+◌, ◌-◌, ◌*◌, ◌^◌, ◌/◌, ◌%◌, ◌<◌, ◌≤◌, min, inl, inr, Bool, true, false, ◌==◌, List, [], ◌∷◌, ◌++◌, length, get_or, take, drop, set, refl, ap, sym, subst, ◌∙◌, arith, append_assoc, append-nil, length-append, length-drop, map, not, slice_index, if◌then◌else◌}
+use Rattle.tc_segment.proofs.Vocabulary.{Extends, IsPlace, IsRegisters, Registers, StandsAt, bit_and, mask_of, nonzero, packed, with_register, drop-append-le, get_or-drop, drop-drop, length-take, take-append-drop, take_all, take_more_set, Decides-eqb, cases_lt, spread, regs_at, ArePacked, and_step, and_self}
 use Rattle.std.proofs.Math.Nat.{pow-succ'}
-use Rattle.std.specs.Int.Bits.{and_step, and_self}
 use Rattle.std.specs.Int.Count.{count_trailing_zeros, under}
 use Rattle.std.specs.Simd.Lanes.{mask_l}
 
@@ -45,8 +43,7 @@ stands_is {edges} {i} {r} s =
     let first = zero_first r.words 31 s.whole.count s.whole.zero_stays in
     let words : spread 31 (get_or edges (i + 1) 0) (drop (i + 2) edges) ≡ xs =
     (λ j. spread (sym first.1 j) (parts.1 j) (parts.2 j)) ∙ spread_packed xs s.rest in
-    let all = ap (λ ys. 0 ∷ ys) words ∙ sym first.0 in
-    λ j. record { pc = parts.0 j; words = all j }
+    λ j. record { pc = parts.0 j; words = (ap (λ ys. 0 ∷ ys) words ∙ sym first.0) j }
 
 -- words that begin with these registers
 pub packed_is : (words : List ℕ) (end : ℕ) (r : Registers) → ArePacked words end r → regs_at words 0 ≡ r
@@ -101,10 +98,7 @@ pub mask_lanes : (xs : List ℕ) → mask_of xs ≡ mask_l (map is_kept xs)
 mask_lanes [] = refl
 mask_lanes (x ∷ xs) =
     let e = mask_lanes xs in
-    (elim (x == 0) as (λ b. (if b then 2 * mask_of xs else 2 * mask_of xs + 1) ≡ mask_l (not b ∷ map is_kept xs)) [
-      | true ↦ omega (arith, e)
-      | false ↦ omega (arith, e)
-    ])
+    (elim (x == 0) as (λ b. (if b then 2 * mask_of xs else 2 * mask_of xs + 1) ≡ mask_l (not b ∷ map is_kept xs)) [ true ↦ omega (arith, e) | false ↦ omega (arith, e) ])
 
 -- without the first, which is 0
 pub mask_first : (xs : List ℕ) (n : ℕ) → length xs ≡ suc n → slice_index xs 0 ≡ 0 → mask_of xs / 2 ≡ mask_of (drop 1 xs)
@@ -119,15 +113,11 @@ mask_less (x ∷ xs) zero le = absurd (omega arith)
 mask_less (x ∷ xs) (suc n) le =
     let h = mask_less xs n (omega (arith, le)) in
     let two = pow-succ' 2 n in
-    (elim (x == 0) as (λ b. (if b then 2 * mask_of xs else 2 * mask_of xs + 1) < 2 ^ suc n) [
-      | true ↦ omega (arith, h, two)
-      | false ↦ omega (arith, h, two)
-    ])
+    (elim (x == 0) as (λ b. (if b then 2 * mask_of xs else 2 * mask_of xs + 1) < 2 ^ suc n) [ true ↦ omega (arith, h, two) | false ↦ omega (arith, h, two) ])
 
 pub two_front : (xs : List ℕ) (a b : ℕ) → 2 ≤ length xs → take 2 (set (set xs 0 a) 1 b) ≡ a ∷ b ∷ []
-two_front [] a b le = absurd (omega arith)
-two_front (x ∷ []) a b le = absurd (omega arith)
 two_front (x ∷ y ∷ xs) a b le = refl
+two_front _ a b le = absurd (omega arith)
 
 -- the numbers where the mask has 1
 abbrev pub picked : ℕ → List ℕ → List ℕ
@@ -204,10 +194,7 @@ nonzero_less : (xs : List ℕ) → length (nonzero xs) ≤ length xs
 nonzero_less [] = omega arith
 nonzero_less (x ∷ xs) =
     let less = nonzero_less xs in
-    (elim (x == 0) as (λ b. length (if b then nonzero xs else x ∷ nonzero xs) ≤ suc (length xs)) [
-      | true ↦ omega arith
-      | false ↦ omega arith
-    ])
+    (elim (x == 0) as (λ b. length (if b then nonzero xs else x ∷ nonzero xs) ≤ suc (length xs)) [ true ↦ omega arith | false ↦ omega arith ])
 
 -- where one more is to come, there is room for it
 pub next_fits : (buffer rest : List ℕ) (end value : ℕ) (r : Registers) → IsRegisters r → length buffer ≡ 33 → end ≤ 33 → take end buffer ++ value ∷ rest ≡ packed r → end < 33
@@ -218,10 +205,7 @@ next_fits buffer rest end value r whole count le is =
 -- ---- unpacking
 
 eq_test : (a b : ℕ) → (a ≡ b → ⊥) → (a == b) ≡ false
-eq_test a b other = (elim (a == b) as (λ t. (a == b) ≡ t → t ≡ false) [
-  | true ↦ λ e. absurd (other ((Decides-eqb a b).0 e))
-  | false ↦ λ e. refl
-]) refl
+eq_test a b other = (elim (a == b) as (λ t. (a == b) ≡ t → t ≡ false) [ true ↦ λ e. absurd (other ((Decides-eqb a b).0 e)) | false ↦ λ e. refl ]) refl
 
 -- the next number, and those behind it
 pub spread_some : (k n mask at : ℕ) (xs : List ℕ) → n ≡ suc k → mask % 2 ≡ 1 → spread n mask (drop at xs) ≡ slice_index xs at ∷ spread k (mask / 2) (drop (at + 1) xs)
@@ -234,8 +218,7 @@ spread_some k n mask at xs is one =
 pub spread_none : (k n mask : ℕ) (ys : List ℕ) → n ≡ suc k → (mask % 2 ≡ 1 → ⊥) → spread n mask ys ≡ 0 ∷ spread k (mask / 2) ys
 unfolding spread
 spread_none k n mask ys is other =
-    let test = eq_test (mask % 2) 1 other in
-    ap (λ m. spread m mask ys) is ∙ ap (λ b. if b then slice_index ys 0 ∷ spread k (mask / 2) (drop 1 ys) else 0 ∷ spread k (mask / 2) ys) test
+    ap (λ m. spread m mask ys) is ∙ ap (λ b. if b then slice_index ys 0 ∷ spread k (mask / 2) (drop 1 ys) else 0 ∷ spread k (mask / 2) ys) (eq_test (mask % 2) 1 other)
 
 -- one number more is there
 pub stored : (ws : List ℕ) (n value : ℕ) (rest all : List ℕ) → n < length ws → take n ws ++ value ∷ rest ≡ all → take (n + 1) (set ws n value) ++ rest ≡ all

@@ -1,7 +1,5 @@
 -- Lock states at rest.
-use Rattle.std.proofs.Common.{◌≡◌, ◌↔◌, ℕ, true, refl}
-use Rattle.tc_segment.proofs.Vocabulary.{Block, LockView, Shown, Taken, blocks_of, fresh_state, last_of, may_begin, run_of, IsAtRest, kept, ends_section, allows_of}
-use Rattle.std.specs.Prelude.{Option, Some, None, IfSome}
+use Rattle.tc_segment.proofs.Vocabulary.{◌≡◌, ◌↔◌, ℕ, true, refl, Option, Some, None, IfSome, Block, LockView, Shown, Taken, blocks_of, fresh_state, last_of, may_begin, run_of, IsAtRest, kept, ends_section, allows_of}
 
 pub rests_fresh : (image : Shown) (k limit : ℕ) → IsAtRest image k (fresh_state image k limit)
 rests_fresh image k limit = record { number = refl; of = refl; opened = refl; closed = refl; ended = tt }

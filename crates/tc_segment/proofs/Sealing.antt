@@ -1,12 +1,11 @@
 -- An entry that is sealed.
-use Rattle.std.proofs.Common.{◌≡◌, ℕ, ◌+◌, ◌-◌, ◌≤◌, Bool, true, false, ◌&&◌, ◌<◌, List, [], ◌∷◌, ◌++◌, map, set, take, length, length-append, refl, sym, ap, subst, ◌∙◌, arith, ◌==◌}
-use Rattle.tc_segment.proofs.Vocabulary.{AreReplayed, Block, Closes, Entry, Opened, IsSoundLock, IsStrict, LockView, Mutex, Opening, Record, Replays, Shown, Taken, block_in, block_of, blocks_of, entries, entry_from, finish_in, last_finish, last_of, may_begin, mutex_at_start, replayed, run_after, run_of, sealed_as, sealed_block, sealed_entry, sealed_list, shown, shown_journal, shown_open, with_closed, with_journal, grounds, map-append, length-set, take-map, take_all, take_more_set, slice_get_past, slice_get_within, begins, unlocks, is_only, may_adopt, is_adopted, allows_of, may_follow, Obeys, passes_on, PassesOn, Registers, nat_tests, and_parts, obeys-more, passes-more}
-use Rattle.std.specs.Prelude.{Option, Some, None, option_map, nat_lt, slice_get, if◌then◌else◌}
-use Rattle.tc_journal.specs.declared.block.Kind.{Kind}
-use Rattle.tc_journal.specs.declared.block.Kind.TheVariants.{Start, On, Adopted, Granted}
+use Rattle.std.proofs.Common.{◌≡◌, ℕ, ◌+◌, ◌-◌, ◌≤◌, Bool, true, false, ◌&&◌, ◌<◌, List, [], ◌∷◌, ◌++◌, map, set, take, length, length-append, refl, sym, ap, subst, ◌∙◌, arith, ◌==◌, Option, Some, None, option_map, nat_lt, slice_get, if◌then◌else◌}
+use Rattle.tc_segment.proofs.Vocabulary.{AreReplayed, Block, Closes, Entry, Opened, IsSoundLock, IsStrict, LockView, Mutex, Opening, Record, Replays, Shown, block_in, block_of, blocks_of, entries, entry_from, finish_in, last_finish, last_of, may_begin, mutex_at_start, replayed, run_after, run_of, sealed_as, sealed_block, sealed_entry, sealed_list, shown, shown_journal, shown_open}
+use Rattle.tc_segment.proofs.Vocabulary.{with_closed, with_journal, grounds, map-append, length-set, take-map, take_all, take_more_set, slice_get_past, slice_get_within, begins, unlocks, is_only, may_adopt, is_adopted, allows_of, may_follow, Obeys, passes_on, PassesOn, Registers, nat_tests, and_parts, obeys-more, passes-more, Adopted}
 use Rattle.tc_turn.specs.Replay.{replay_entry}
+use Rattle.tc_journal.specs.declared.block.Kind.{Kind}
 use Rattle.tc_segment.proofs.Journals.{replayed-more}
-use Rattle.tc_segment.proofs.Keeping.{entries_are, last_at}
+use Rattle.tc_segment.proofs.Keeping.{entries_are, last_at, sound_with}
 
 blocks_all : (edges : List ℕ) (words : List ℕ) (rs : List Record) → map block_in (map (shown edges words) rs) ≡ map block_of rs
 blocks_all edges words [] = refl
@@ -33,13 +32,10 @@ replayed_sealed image lock stamp worker old es e =
     replayed-more image lock old es (sealed_entry stamp worker e) ∙ entry_sealed image lock stamp worker e (replayed image lock old es) ∙ sym (replayed-more image lock old es e)
 
 adopted_short : (lock limit : ℕ) (last : Option Block) (run : ℕ) (kind : Kind) (worker : ℕ) → may_begin lock limit last run kind worker ≡ true → (if is_adopted kind then run + 1 else 0) ≤ limit
-adopted_short lock limit last run Start worker e = omega arith
-adopted_short lock limit last run On worker e = omega arith
-adopted_short lock limit last run Taken worker e = omega arith
 adopted_short lock limit None run Adopted worker e = absurd (cc)
 adopted_short lock limit (Some b) run Adopted worker e =
     (let lt : nat_lt run limit ≡ true = (and_parts (unlocks lock b.end && is_only b.held lock) (nat_lt run limit) ((and_parts (may_adopt b lock run limit) (b.worker == worker) e).0)).1 in grind (arith, nat_tests))
-adopted_short lock limit last run Granted worker e = omega arith
+adopted_short lock limit last run _ worker e = omega arith
 
 pub run_short : (lock limit : ℕ) (before : List Block) (b : Block) → run_of lock before ≤ limit → may_follow lock limit before b ≡ true → run_after lock (run_of lock before) b ≤ limit
 unfolding may_follow allows_of
@@ -78,19 +74,11 @@ sound_sealed stamp worker l e sound is follows passes =
     let same : replayed j.image l.number (mutex_at_start j.image l.number) (sealed_list stamp worker j.sealed j.closed) ≡ replayed j.image l.number (mutex_at_start j.image l.number) (entries j) =
     ap (replayed j.image l.number (mutex_at_start j.image l.number)) new ∙ replayed_sealed j.image l.number stamp worker (mutex_at_start j.image l.number) j.sealed e ∙ ap (replayed j.image l.number (mutex_at_start j.image l.number)) (sym old) in
     let blocks : map block_in (j.sealed ++ sealed_entry stamp worker e ∷ []) ≡ map block_in j.sealed ++ sealed_block stamp worker e.block ∷ [] = map-append block_in j.sealed (sealed_entry stamp worker e ∷ []) in
-    record {
-      bytes = sound.bytes;
-      known = sound.known;
-      small = sound.small;
-      guard = sound.guard;
-      limit = sound.limit;
-      replays = subst (λ es. AreReplayed j.image l.number (mutex_at_start j.image l.number) es) (sym new) (are_sealed j.image l.number stamp worker (mutex_at_start j.image l.number) j.sealed e (subst (λ es. AreReplayed j.image l.number (mutex_at_start j.image l.number) es) old sound.replays));
-      rest = λ h. sound.rest h ∙ sym same;
-      from = λ o h. sound.from o h ∙ sym same;
-      alone = λ h. refl;
-      obeys = subst (λ bs. Obeys l.number j.limit bs) (sym (ap (map block_in) new ∙ blocks)) (obeys-more l.number j.limit [] (map block_in j.sealed) (sealed_block stamp worker e.block) sound.obeys follows);
-      passes = λ h. subst (λ bs. PassesOn l.number bs) (sym (ap (map block_in) new ∙ blocks)) (passes-more l.number [] (map block_in j.sealed) (sealed_block stamp worker e.block) (sound.passes h) (stamped_passes l.number stamp worker (map block_in j.sealed) e.block (passes h)));
-    }
+    sound_with l (sealed_list stamp worker j.sealed j.closed) None j.opened j.entry_room j.word_room sound
+    (subst (λ es. AreReplayed j.image l.number (mutex_at_start j.image l.number) es) (sym new) (are_sealed j.image l.number stamp worker (mutex_at_start j.image l.number) j.sealed e (subst (λ es. AreReplayed j.image l.number (mutex_at_start j.image l.number) es) old sound.replays)))
+    (λ h. sound.rest h ∙ sym same) (λ o h. sound.from o h ∙ sym same) (λ h. refl)
+    (subst (λ bs. Obeys l.number j.limit bs) (sym (ap (map block_in) new ∙ blocks)) (obeys-more l.number j.limit [] (map block_in j.sealed) (sealed_block stamp worker e.block) sound.obeys follows))
+    (λ h. subst (λ bs. PassesOn l.number bs) (sym (ap (map block_in) new ∙ blocks)) (passes-more l.number [] (map block_in j.sealed) (sealed_block stamp worker e.block) (sound.passes h) (stamped_passes l.number stamp worker (map block_in j.sealed) e.block (passes h))))
 
 -- nor in what closes an entry
 pub closes_sealed : (stamp worker : ℕ) (l : LockView) (b : Block) (finish : Registers) (o : Opened) → Closes l b finish o → Closes l (sealed_block stamp worker b) finish o

@@ -1,7 +1,5 @@
 -- Words that are noted one after another.
-use Rattle.std.proofs.Common.{◌≡◌, ℕ, ◌+◌, ◌-◌, Bool, true, false, List, [], ◌++◌, length, refl, sym, ap, ◌∙◌, arith, append-nil, append_assoc, length-append}
-use Rattle.tc_segment.proofs.Vocabulary.{Journal, Opened, more_words, noted}
-use Rattle.std.specs.Prelude.{Option, Some, None, is_some, option_map, if◌then◌else◌}
+use Rattle.tc_segment.proofs.Vocabulary.{◌≡◌, ℕ, ◌+◌, ◌-◌, Bool, true, false, List, [], ◌++◌, length, refl, sym, ap, ◌∙◌, arith, append-nil, append_assoc, length-append, Option, Some, None, is_some, option_map, if◌then◌else◌, Journal, Opened, more_words, noted}
 
 more_nil : (o : Option Opened) → option_map (more_words []) o ≡ o
 more_nil None = refl
@@ -13,9 +11,7 @@ less_nil false n = refl
 
 pub noted_nil : (j : Journal) → noted [] j ≡ j
 noted_nil j =
-    let o = more_nil j.opened in
-    let r = less_nil (is_some j.opened) j.word_room in
-    λ i. record { image = j.image; limit = j.limit; strict = j.strict; sealed = j.sealed; closed = j.closed; opened = o i; entry_room = j.entry_room; word_room = r i }
+    λ i. record { image = j.image; limit = j.limit; strict = j.strict; sealed = j.sealed; closed = j.closed; opened = (more_nil j.opened) i; entry_room = j.entry_room; word_room = (less_nil (is_some j.opened) j.word_room) i }
 
 more_more : (ws vs : List ℕ) (o : Option Opened) → option_map (more_words vs) (option_map (more_words ws) o) ≡ option_map (more_words (ws ++ vs)) o
 more_more ws vs None = refl
@@ -25,15 +21,12 @@ pub more_some : (ws : List ℕ) (o : Option Opened) → is_some (option_map (mor
 more_some ws None = refl
 more_some ws (Some o) = refl
 
-less_more : (b c : Bool) (n v w : ℕ) → c ≡ b → (if c then (if b then n - v else n) - w else (if b then n - v else n)) ≡ (if b then n - (v + w) else n)
-less_more true true n v w e = omega arith
-less_more true false n v w e = absurd (cc)
-less_more false true n v w e = absurd (cc)
-less_more false false n v w e = refl
+less_more : (b : Bool) (n v w : ℕ) → (if b then (if b then n - v else n) - w else (if b then n - v else n)) ≡ (if b then n - (v + w) else n)
+less_more true n v w = omega arith
+less_more false n v w = refl
 
 pub noted_more : (ws vs : List ℕ) (j : Journal) → noted vs (noted ws j) ≡ noted (ws ++ vs) j
 noted_more ws vs j =
-    let o = more_more ws vs j.opened in
-    let r = less_more (is_some j.opened) (is_some (option_map (more_words ws) j.opened)) j.word_room (length ws) (length vs) (more_some ws j.opened)
-    ∙ ap (λ n. if is_some j.opened then j.word_room - n else j.word_room) (sym (length-append ws vs)) in
-    λ i. record { image = j.image; limit = j.limit; strict = j.strict; sealed = j.sealed; closed = j.closed; opened = o i; entry_room = j.entry_room; word_room = r i }
+    let after = ap (λ b. let n = (if is_some j.opened then j.word_room - length ws else j.word_room) in if b then n - length vs else n) (more_some ws j.opened) in
+    let r = after ∙ less_more (is_some j.opened) j.word_room (length ws) (length vs) ∙ ap (λ n. if is_some j.opened then j.word_room - n else j.word_room) (sym (length-append ws vs)) in
+    λ i. record { image = j.image; limit = j.limit; strict = j.strict; sealed = j.sealed; closed = j.closed; opened = (more_more ws vs j.opened) i; entry_room = j.entry_room; word_room = r i }

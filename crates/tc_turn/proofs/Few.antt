@@ -1,11 +1,8 @@
 -- How many locks a thread holds.
-use Rattle.std.proofs.Common.{◌≡◌, ℕ, zero, suc, ◌+◌, ◌<◌, ◌≤◌, Bool, true, false, cond, not, ◌||◌, ◌&&◌, ◌==◌, List, [], ◌∷◌, length, filter, refl, sym, ap, subst, ◌∙◌, inl, inr, arith}
-use Rattle.std.specs.Prelude.{Some, None, if◌then◌else◌}
-use Rattle.tc_turn.proofs.Vocabulary.{eqb_tells, leb_tells, Shown, Registers, get, MAX_HELD, has_lock, holds_most, is_above_held, lock_fault, act_of, Thread, next_lock, plus_lock, range_with_len, has, locks_of}
+use Rattle.std.proofs.Common.{◌≡◌, ℕ, zero, suc, ◌+◌, ◌<◌, ◌≤◌, Bool, true, false, cond, not, ◌||◌, ◌&&◌, ◌==◌, List, [], ◌∷◌, length, filter, refl, sym, ap, subst, ◌∙◌, inl, inr, arith, Some, None, if◌then◌else◌}
+use Rattle.tc_turn.proofs.Vocabulary.{eqb_tells, leb_tells, Shown, Registers, get, MAX_HELD, has_lock, holds_most, is_above_held, lock_fault, act_of, Thread, next_lock, plus_lock, range_with_len, has, locks_of, Called, Lock}
 use Rattle.tc_isa.specs.declared.fault.Fault.TheVariants as fault
 use Rattle.tc_exec.specs.Told.{IsNoLock, taken_by}
-use Rattle.tc_exec.specs.declared.outcome.Act.TheVariants.{Called}
-use Rattle.tc_exec.specs.declared.outcome.Call.TheVariants.{Lock}
 use Rattle.tc_exec.proofs.NoLock.{never, taken_some}
 use Rattle.tc_turn.proofs.Turns.{next_some}
 use Rattle.tc_lemmas.proofs.Tests.{eq_self}

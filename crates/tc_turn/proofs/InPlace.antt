@@ -1,10 +1,6 @@
 -- A turn in place is the turn.
-use Rattle.std.proofs.Common.{◌≡◌, refl}
-use Rattle.std.specs.Prelude.{Option, Some, None}
-use Rattle.tc_turn.proofs.Vocabulary.{Act, Thread, thread_after, outcome_of, option_map}
+use Rattle.tc_turn.proofs.Vocabulary.{◌≡◌, refl, Option, Some, None, Act, Thread, thread_after, outcome_of, option_map, Next, Called, Faulted, Lock, Unlock, Sleep, Exit}
 use Rattle.tc_exec.specs.InPlace.{regs_after, done_of}
-use Rattle.tc_exec.specs.declared.outcome.Act.TheVariants.{Next, Called, Faulted}
-use Rattle.tc_exec.specs.declared.outcome.Call.TheVariants.{Lock, Unlock, Sleep, Exit}
 use Rattle.tc_turn.specs.InPlace.{thread_done, with_regs, outcome_done}
 
 -- ---- an act seen by its registers, and what is done beside them

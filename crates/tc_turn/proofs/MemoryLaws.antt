@@ -1,7 +1,6 @@
 -- A thread's own memory, kept in parts, is a map from addresses to bytes.
-use Rattle.std.proofs.Common.{◌≡◌, ◌≢◌, ℕ, zero, suc, ◌+◌, ◌-◌, ◌/◌, ◌%◌, ◌<◌, ◌≤◌, ◌==◌, Bool, true, false, All, List, [], ◌∷◌, ◌++◌, length, map, set, get_or, replicate, refl, sym, ap, subst, ◌∙◌, arith, inl, inr}
-use Rattle.std.specs.Prelude.{if◌then◌else◌, nat_le, slice_get, Option, Some, None, unwrap_or}
-use Rattle.tc_turn.proofs.Vocabulary.{eqb_tells, leb_tells, nat_tests, slice_get-get_or, get_or-replicate, length-replicate, ext_get_or, Shown, lies_in, in_writable, touches, byte_of, own_region, stack_start, stack_length, with_byte, with_number, byte_from, put_byte, part_with, Part, own_of, own_bytes, starting_byte, starting_bytes, own_at_start, Region, option_map, option_or, no_part, with_piece, AreApart, list_any, length-map-range_with_len, get_or-map-range_with_len}
+use Rattle.tc_turn.proofs.Vocabulary.{◌≡◌, ◌≢◌, ℕ, zero, suc, ◌+◌, ◌-◌, ◌/◌, ◌%◌, ◌<◌, ◌≤◌, ◌==◌, Bool, true, false, All, List, [], ◌∷◌, ◌++◌, length, map, set, get_or, replicate, refl, sym, ap, subst, ◌∙◌, arith, inl, inr, if◌then◌else◌, nat_le, slice_get, Option, Some, None, unwrap_or, eqb_tells, leb_tells, nat_tests, slice_get-get_or, get_or-replicate, length-replicate, ext_get_or, Shown}
+use Rattle.tc_turn.proofs.Vocabulary.{lies_in, in_writable, touches, byte_of, own_region, stack_start, stack_length, with_byte, with_number, byte_from, put_byte, part_with, Part, own_of, own_bytes, starting_byte, starting_bytes, own_at_start, Region, option_map, option_or, no_part, with_piece, AreApart, list_any, length-map-range_with_len, get_or-map-range_with_len}
 use Rattle.std.proofs.lemmas.List.Elements.{All-push}
 use Rattle.std.proofs.lemmas.List.Quantifiers.{all_pairs_push}
 use Rattle.tc_elf.specs.declared.image.Region.TheVariants as region
@@ -31,10 +30,7 @@ byte_from-put start bytes at value k = elim (leb_tells start at) [
       | inr below ↦ rw (below.0) refl
     ])
   ])
-  | inr high ↦ rw (high.0) (elim (eqb_tells k at) [
-    | inl here ↦ rw (here.0, here.1, high.0) refl
-    | inr there ↦ rw (there.0) refl
-  ])
+  | inr high ↦ rw (high.0) (elim (eqb_tells k at) [ inl here ↦ rw (here.0, here.1, high.0) refl | inr there ↦ rw (there.0) refl ])
 ]
 
 -- ---- one byte in the parts
@@ -94,11 +90,9 @@ bytes_each image start n bytes long each =
 
 -- the byte at an address of this place in a thread's own memory
 abbrev own_byte : Shown → Region → ℕ → Option ℕ
-own_byte image region.Text at = None
 own_byte image region.Private at = Some (starting_byte image at)
 own_byte image region.Stack at = Some 0
-own_byte image (region.Guard lock) at = None
-own_byte image region.Nothing at = None
+own_byte image _ at = None
 
 own_at_start_is : (image : Shown) (at : ℕ) → own_at_start image at ≡ own_byte image (own_region image at) at
 unfolding own_at_start
@@ -126,21 +120,17 @@ byte_there start bytes at value low high is =
     rw (from) (slice_get-get_or bytes (at - start) 0 (omega arith) ∙ ap Some is)
 
 bytes_are : (image : Shown) (r : Region) (start n at : ℕ) → start ≤ at → at < start + n → byte_by start (own_bytes image r start n) at ≡ own_byte image r at
-bytes_are image region.Text start n at low high = refl
 bytes_are image region.Private start n at low high =
     byte_there start (starting_bytes image start n) at (starting_byte image at) low (let e = length_starting image start n in omega arith)
     (get_or-map-range_with_len (starting_byte image) start n (at - start) at 0 (omega arith) (omega arith))
 bytes_are image region.Stack start n at low high =
     byte_there start (replicate n 0) at 0 low (let e = length-replicate {A = ℕ} n 0 in omega arith) (get_or-replicate {A = ℕ} n (at - start) 0 0 (omega arith))
-bytes_are image (region.Guard lock) start n at low high = refl
-bytes_are image region.Nothing start n at low high = refl
+bytes_are image _ start n at low high = refl
 
 are_few : (image : Shown) (r : Region) (start n : ℕ) → AreFew n (own_bytes image r start n)
-are_few image region.Text start n = tt
 are_few image region.Private start n = (let e = length_starting image start n in omega arith)
 are_few image region.Stack start n = (let e = length-replicate {A = ℕ} n 0 in omega arith)
-are_few image (region.Guard lock) start n = tt
-are_few image region.Nothing start n = tt
+are_few image _ start n = tt
 
 own_of-append : (parts : List Part) (p : Part) (at : ℕ) → own_of (parts ++ p ∷ []) at ≡ option_or (own_of parts at) (byte_from p.start p.bytes at)
 own_of-append [] p at = or_none (byte_from p.start p.bytes at)

@@ -1,7 +1,5 @@
 -- What an instruction does in a loop over steps.
-use Rattle.std.proofs.Common.{◌≡◌, ℕ, ◌==◌, Bool, true, false, refl, ap, ◌∙◌}
-use Rattle.std.specs.Prelude.{if◌then◌else◌, Option, Some, None, Ok}
-use Rattle.tc_turn.proofs.Vocabulary.{Shown, Registers, Region, instruction_at, act_by, wants_by, act_from, wants_from, act_of, wants_of, Act, Thread, Mutex, Guest, taken_by, next_lock, next_act, answer_of, answer_to, own_after, has, HasExecuted, own_number}
+use Rattle.tc_turn.proofs.Vocabulary.{◌≡◌, ℕ, ◌==◌, Bool, true, false, refl, ap, ◌∙◌, if◌then◌else◌, Option, Some, None, Ok, Shown, Registers, Region, instruction_at, act_by, wants_by, act_from, wants_from, act_of, wants_of, Act, Thread, Mutex, Guest, taken_by, next_lock, next_act, answer_of, answer_to, own_after, has, HasExecuted, own_number}
 use Rattle.tc_isa.specs.declared.instr.Instr.{Instr}
 use Rattle.tc_elf.specs.declared.image.Region.TheVariants as region
 use Rattle.tc_exec.specs.Access.{load, put_at, store}
@@ -48,21 +46,16 @@ executed image g next i (effect.Store kind addr value) at is =
     let same : next ≡ g.regs = is.kept refl in
     let act = λ (answer : ℕ). act_found image g next i (effect.Store kind addr value) at is answer ∙ ap (λ r. store image (has g.held) r kind addr value) same in
     (ap (λ r. record g { regs = r }) same, record { act = act; want = want_found image g next i (effect.Store kind addr value) at is })
-executed image g next i effect.Call at is = ap (λ r. record g { regs = r }) (is.kept refl)
-executed image g next i (effect.Fault f) at is = ap (λ r. record g { regs = r }) (is.kept refl)
+executed image g next i _ at is = ap (λ r. record g { regs = r }) (is.kept refl)
 
 -- ---- the thread's own memory
 
 pub own_answer : (image : Shown) (place : Region) (addr width : ℕ) (next : Option ℕ) (d : Thread) (locks : ℕ → Mutex) → is_own place ≡ true → answer_to image (want.Load place addr width) next d.own locks ≡ own_number d addr width
-own_answer image region.Text addr width next d locks e = absurd (cc)
 own_answer image region.Private addr width next d locks e = refl
 own_answer image region.Stack addr width next d locks e = refl
-own_answer image (region.Guard lock) addr width next d locks e = absurd (cc)
-own_answer image region.Nothing addr width next d locks e = absurd (cc)
+own_answer image _ addr width next d locks e = absurd (cc)
 
 pub own_put : (place : Region) (own : ℕ → Option ℕ) (addr width value : ℕ) → is_own place ≡ true → own_after (Some (put_at place addr width value)) own ≡ own_after (Some (put_at region.Private addr width value)) own
-own_put region.Text own addr width value e = absurd (cc)
 own_put region.Private own addr width value e = refl
 own_put region.Stack own addr width value e = refl
-own_put (region.Guard lock) own addr width value e = absurd (cc)
-own_put region.Nothing own addr width value e = absurd (cc)
+own_put _ own addr width value e = absurd (cc)

@@ -1,6 +1,5 @@
 -- A thread's own memory: an access whose bytes one part has is read and written in that part.
-use Rattle.std.proofs.Common.{◌≡◌, ◌≢◌, ◌⊎◌, ℕ, zero, suc, ◌+◌, ◌-◌, ◌/◌, ◌%◌, ◌<◌, ◌≤◌, true, List, [], ◌∷◌, length, map, set, refl, sym, ap, ◌∙◌, arith, inl, inr}
-use Rattle.std.specs.Prelude.{Option, Some, None, Vec, unwrap_or}
+use Rattle.std.proofs.Common.{◌≡◌, ◌≢◌, ◌⊎◌, ℕ, zero, suc, ◌+◌, ◌-◌, ◌/◌, ◌%◌, ◌<◌, ◌≤◌, true, List, [], ◌∷◌, length, map, set, refl, sym, ap, ◌∙◌, arith, inl, inr, Option, Some, None, Vec, unwrap_or}
 use Rattle.std.specs.Vec.{with_items}
 use Rattle.tc_turn.proofs.Vocabulary.{leb_tells, nat_tests, slice_get_past, length-set, length-map, set_past, get_or-map, with_items_is, Part, number_at, byte_from, put_byte, put_number, part_with, own_of, and_parts, option_or, no_part, part_at, part_has, AreApart}
 use Rattle.tc_turn.proofs.Numbers.{number_same}
@@ -65,8 +64,7 @@ put_away start bytes at value away = elim (leb_tells start at) [
 number_away : (start : ℕ) (bytes : List ℕ) (addr n value : ℕ) → (addr + n ≤ start) ⊎ (start + length bytes ≤ addr) → put_number start bytes addr n value ≡ bytes
 number_away start bytes addr zero value away = refl
 number_away start bytes addr (suc n) value away =
-    let here = put_away start bytes addr (value % 256) (elim away [ inl below ↦ inl (omega arith) | inr above ↦ inr above ]) in
-    ap (λ bs. put_number start bs (addr + 1) n (value / 256)) here
+    ap (λ bs. put_number start bs (addr + 1) n (value / 256)) (put_away start bytes addr (value % 256) (elim away [ inl below ↦ inl (omega arith) | inr above ↦ inr above ]))
     ∙ number_away start bytes (addr + 1) n (value / 256) (elim away [ inl below ↦ inl (omega arith) | inr above ↦ inr (omega arith) ])
 
 part_away : (p : Part) (addr n value : ℕ) → IsAway addr n p → part_with addr n value p ≡ p
@@ -75,9 +73,8 @@ part_away p addr n value away = ap (λ bs. record { start = p.start; bytes = bs 
 map_fixed : (f : Part → Part) (ps : List Part) → ((j : ℕ) → j < length ps → f (part_at ps j) ≡ part_at ps j) → map f ps ≡ ps
 map_fixed f [] same = refl
 map_fixed f (p ∷ ps) same =
-    let here = same 0 (omega arith) in
     let rest = map_fixed f ps (λ j below. same (suc j) (omega arith)) in
-    λ k. here k ∷ rest k
+    λ k. (same 0 (omega arith)) k ∷ rest k
 
 map_one : (f : Part → Part) (ps : List Part) (i : ℕ) → ((j : ℕ) → j < length ps → j ≢ i → f (part_at ps j) ≡ part_at ps j) → set ps i (f (part_at ps i)) ≡ map f ps
 map_one f [] i same = refl
@@ -85,8 +82,7 @@ map_one f (p ∷ ps) zero same =
     ap (λ qs. f p ∷ qs) (sym (map_fixed f ps (λ j below. same (suc j) (omega arith) (omega arith))))
 map_one f (p ∷ ps) (suc i) same =
     let here : p ≡ f p = sym (same 0 (omega arith) (omega arith)) in
-    let rest = map_one f ps i (λ j below ne. same (suc j) (omega arith) (omega arith)) in
-    λ k. here k ∷ rest k
+    λ k. here k ∷ (map_one f ps i (λ j below ne. same (suc j) (omega arith) (omega arith))) k
 
 -- a store in the part that has its bytes is one in every part
 pub put_there : (parts : List Part) (i addr n value : ℕ) → AreApart parts → i < length parts → part_has addr n (part_at parts i) ≡ true

@@ -1,10 +1,7 @@
 -- A turn reads its thread and the locks that it holds or takes, and leaves the others alone.
-use Rattle.std.proofs.Common.{◌≡◌, ◌≢◌, ◌⊎◌, ℕ, ◌<◌, Bool, true, false, length, ◌==◌, refl, sym, ap, ◌∙◌, arith, inl, inr}
-use Rattle.std.specs.Prelude.{if◌then◌else◌, unwrap_or, Option, Some, None}
-use Rattle.tc_turn.proofs.Vocabulary.{eqb_tells, nat_tests, Shown, guard_at, number_at, byte_from, false_from_ne_true, Registers, MAX_TURNS, Region, answered, wants_of, act_of, Act, Want, guard_is_held, put_is_held, unlock_is_held, lock_is_free, lock_wants_nothing, Thread, Mutex, taken_by, next_lock, byte_at, lock_answer, answer_to, act_with, next_act, outcome_of, thread_after, mutex_after, guard_with, when, with_own, Covers}
+use Rattle.tc_turn.proofs.Vocabulary.{◌≡◌, ◌≢◌, ◌⊎◌, ℕ, ◌<◌, Bool, true, false, length, ◌==◌, refl, sym, ap, ◌∙◌, arith, inl, inr, if◌then◌else◌, unwrap_or, Option, Some, None, eqb_tells, nat_tests, Shown, guard_at, number_at, byte_from, false_from_ne_true, Registers, MAX_TURNS, Region, answered, wants_of, act_of, Act, Want, guard_is_held, put_is_held, unlock_is_held, lock_is_free}
+use Rattle.tc_turn.proofs.Vocabulary.{lock_wants_nothing, Thread, Mutex, taken_by, next_lock, byte_at, lock_answer, answer_to, act_with, next_act, outcome_of, thread_after, mutex_after, guard_with, when, with_own, Covers, Next, Called, Lock, Unlock, Sleep}
 use Rattle.tc_elf.specs.declared.image.Region.TheVariants as region
-use Rattle.tc_exec.specs.declared.outcome.Act.TheVariants.{Next, Called, Faulted}
-use Rattle.tc_exec.specs.declared.outcome.Call.TheVariants.{Lock, Unlock, Sleep, Exit}
 use Rattle.tc_exec.specs.declared.outcome.Put.{Put}
 use Rattle.tc_exec.specs.declared.outcome.Want.TheVariants as want
 use Rattle.tc_journal.specs.Rule.{end_rule}
@@ -19,12 +16,8 @@ taken_is : (a : Act) (k : ℕ) (regs : Registers) → a ≡ Called (Lock k) regs
 taken_is a k regs e = rw e refl
 
 pub taken_was : (a : Act) (k : ℕ) → taken_by a ≡ Some k → (regs : Registers) × (a ≡ Called (Lock k) regs)
-taken_was (Next regs put) k e = absurd (cc)
 taken_was (Called (Lock j) regs) k e = (regs, (let same : j ≡ k = cc in ap (λ x. Called (Lock x) regs) same))
-taken_was (Called (Unlock j) regs) k e = absurd (cc)
-taken_was (Called (Sleep n) regs) k e = absurd (cc)
-taken_was (Called Exit regs) k e = absurd (cc)
-taken_was (Faulted f) k e = absurd (cc)
+taken_was _ k e = absurd (cc)
 
 pub next_some : (image : Shown) (d : Thread) (k : ℕ) → next_lock image d ≡ Some k → (regs : Registers) × (act_of image d.held d.regs 0 ≡ Called (Lock k) regs)
 unfolding next_lock
@@ -53,10 +46,7 @@ next_wants image d k e = (let was = next_some image d k e in lock_wants_nothing 
 -- a turn that takes a lock has fuel
 pub next_fueled : (image : Shown) (d : Thread) (lock : ℕ) → next_lock image d ≡ Some lock → (d.fuel == 0) ≡ false
 unfolding next_lock
-next_fueled image d lock = elim (d.fuel == 0) as (λ b. (if b then None else taken_by (act_of image d.held d.regs 0)) ≡ Some lock → b ≡ false) [
-  | true ↦ λ e. absurd (cc)
-  | false ↦ λ e. refl
-]
+next_fueled image d lock = elim (d.fuel == 0) as (λ b. (if b then None else taken_by (act_of image d.held d.regs 0)) ≡ Some lock → b ≡ false) [ true ↦ λ e. absurd (cc) | false ↦ λ e. refl ]
 
 -- and does the LOCK at every answer
 pub next_acts : (image : Shown) (d : Thread) (lock answer : ℕ) → next_lock image d ≡ Some lock → act_with image d answer ≡ Some (Called (Lock lock) (answered d.regs answer))
@@ -69,10 +59,7 @@ next_acts image d lock answer next =
 
 pub act_some : (image : Shown) (d : Thread) (answer : ℕ) (a : Act) → act_with image d answer ≡ Some a → act_of image d.held d.regs answer ≡ a
 act_some image d answer a =
-    elim (d.fuel == 0) as (λ b. (if b then None else Some (act_of image d.held d.regs answer)) ≡ Some a → act_of image d.held d.regs answer ≡ a) [
-      | true ↦ λ e. cc
-      | false ↦ λ e. some_same _ _ e
-    ]
+    elim (d.fuel == 0) as (λ b. (if b then None else Some (act_of image d.held d.regs answer)) ≡ Some a → act_of image d.held d.regs answer ≡ a) [ true ↦ λ e. cc | false ↦ λ e. some_same _ _ e ]
 
 -- a turn that takes a lock is one whose next lock it was, at every answer
 pub act_takes : (image : Shown) (d : Thread) (answer k : ℕ) (regs : Registers) → act_with image d answer ≡ Some (Called (Lock k) regs) → next_lock image d ≡ Some k
@@ -99,21 +86,16 @@ apart : (held : ℕ → Bool) (k lock : ℕ) → held k ≡ false → held lock 
 apart held k lock out is e = (let o : held lock ≡ false = ap held (sym e) ∙ out in cc)
 
 guard_still : (image : Shown) (held : ℕ → Bool) (place : Region) (k : ℕ) (l : Mutex) (addr width value : ℕ) → held k ≡ false → ((lock : ℕ) → place ≡ region.Guard lock → held lock ≡ true) → guard_with image place k l addr width value ≡ l
-guard_still image held region.Text k l addr width value out is = refl
-guard_still image held region.Private k l addr width value out is = refl
-guard_still image held region.Stack k l addr width value out is = refl
 guard_still image held (region.Guard lock) k l addr width value out is = when_not k lock _ l (apart held k lock out (is lock refl))
-guard_still image held region.Nothing k l addr width value out is = refl
+guard_still image held _ k l addr width value out is = refl
 
 mutex_still : (image : Shown) (t : ℕ) (held : ℕ → Bool) (a : Option Act) (k : ℕ) (l : Mutex) → Untouched held a k → mutex_after image t held a k l ≡ l
-mutex_still image t held None k l u = rw u.out refl
 mutex_still image t held (Some (Next regs None)) k l u = refl
 mutex_still image t held (Some (Next regs (Some put))) k l u = guard_still image held put.region k l put.addr put.width put.value u.out (λ lock e. u.put regs put lock refl e)
 mutex_still image t held (Some (Called (Lock lock) regs)) k l u = when_not k lock _ l (λ e. u.lock regs (rw e refl))
 mutex_still image t held (Some (Called (Unlock lock) regs)) k l u = when_not k lock _ l (apart held k lock u.out (u.unlock regs lock refl))
 mutex_still image t held (Some (Called (Sleep n) regs)) k l u = refl
-mutex_still image t held (Some (Called Exit regs)) k l u = rw u.out refl
-mutex_still image t held (Some (Faulted f)) k l u = rw u.out refl
+mutex_still image t held _ k l u = rw u.out refl
 
 untouched : (image : Shown) (set : ℕ → Bool) (d : Thread) (answer k : ℕ) → Covers image set d → set k ≡ false → Untouched d.held (act_with image d answer) k
 untouched image set d answer k covers out = record {
@@ -131,11 +113,8 @@ leaves image set t d locks k l covers out = mutex_still image t d.held _ k l (un
 
 byte_same : (image : Shown) (set : ℕ → Bool) (own : ℕ → Option ℕ) (a b : ℕ → Mutex) (place : Region)
     → ((lock : ℕ) → place ≡ region.Guard lock → set lock ≡ true) → ((k : ℕ) → set k ≡ true → a k ≡ b k) → byte_at image own a place ≡ byte_at image own b place
-byte_same image set own a b region.Text is same = refl
-byte_same image set own a b region.Private is same = refl
-byte_same image set own a b region.Stack is same = refl
 byte_same image set own a b (region.Guard lock) is same = ap (λ (l : Mutex). λ at. unwrap_or (byte_from (guard_at image lock).start l.bytes at) 0) (same lock (is lock refl))
-byte_same image set own a b region.Nothing is same = refl
+byte_same image set own a b _ is same = refl
 
 -- the lock that an answer reads is in the set, so the answer is the same
 pub answer_same : (image : Shown) (set : ℕ → Bool) (wanted : Want) (next : Option ℕ) (own : ℕ → Option ℕ) (a b : ℕ → Mutex)
@@ -155,30 +134,22 @@ reads image set d a b covers same =
 -- ---- what a thread holds after a turn
 
 pub held_grows : (d : Thread) (a : Option Act) (k : ℕ) → (thread_after d a).held k ≡ true → (d.held k ≡ true) ⊎ ((regs : Registers) × (a ≡ Some (Called (Lock k) regs)))
-held_grows d None k h = absurd (cc)
 held_grows d (Some (Next regs put)) k h = inl h
 held_grows d (Some (Called (Lock lock) regs)) k h = elim (eqb_tells k lock) [ inl e ↦ inr (regs, rw e.1 refl) | inr e ↦ inl (rw e.0 at h) ]
 held_grows d (Some (Called (Unlock lock) regs)) k h = elim (eqb_tells k lock) [ inl e ↦ absurd (let f : false ≡ true = (rw e.0 at h) in cc) | inr e ↦ inl (rw e.0 at h) ]
 held_grows d (Some (Called (Sleep n) regs)) k h = inl h
-held_grows d (Some (Called Exit regs)) k h = absurd (cc)
-held_grows d (Some (Faulted f)) k h = absurd (cc)
+held_grows d _ k h = absurd (cc)
 
 -- it holds none but the image's
 pub held_known : (image : Shown) (d : Thread) (locks : ℕ → Mutex) → ((k : ℕ) → d.held k ≡ true → k < length image.guards)
     → (k : ℕ) → (thread_after d (next_act image d locks)).held k ≡ true → k < length image.guards
 unfolding next_act
-held_known image d locks held k h = elim (held_grows d (next_act image d locks) k h) [
-  | inl before ↦ held k before
-  | inr took ↦ next_known image d k (act_takes image d _ k took.0 took.1)
-]
+held_known image d locks held k h = elim (held_grows d (next_act image d locks) k h) [ inl before ↦ held k before | inr took ↦ next_known image d k (act_takes image d _ k took.0 took.1) ]
 
 -- what is held after the turn is in the set
 pub held_on : (image : Shown) (set : ℕ → Bool) (d : Thread) (locks : ℕ → Mutex) → Covers image set d → (k : ℕ) → (thread_after d (next_act image d locks)).held k ≡ true → set k ≡ true
 unfolding next_act
-held_on image set d locks covers k h = elim (held_grows d (next_act image d locks) k h) [
-  | inl before ↦ covers.held k before
-  | inr took ↦ covers.next k (act_takes image d _ k took.0 took.1)
-]
+held_on image set d locks covers k h = elim (held_grows d (next_act image d locks) k h) [ inl before ↦ covers.held k before | inr took ↦ covers.next k (act_takes image d _ k took.0 took.1) ]
 
 -- after a turn that takes no lock next, the same set covers the next turn
 pub covers_on : (image : Shown) (set : ℕ → Bool) (d : Thread) (locks : ℕ → Mutex) → Covers image set d
@@ -188,13 +159,8 @@ covers_on image set d locks covers none = record { held = held_on image set d lo
 -- ---- a turn that releases a lock
 
 released_by : (a : Option Act) (lock : ℕ) → outcome_of a ≡ outcome.Unlocked lock → (regs : Registers) × (a ≡ Some (Called (Unlock lock) regs))
-released_by None lock e = absurd (cc)
-released_by (Some (Next regs put)) lock e = absurd (cc)
-released_by (Some (Called (Lock k) regs)) lock e = absurd (cc)
 released_by (Some (Called (Unlock k) regs)) lock e = (regs, (let same : k ≡ lock = cc in ap (λ x. Some (Called (Unlock x) regs)) same))
-released_by (Some (Called (Sleep n) regs)) lock e = absurd (cc)
-released_by (Some (Called Exit regs)) lock e = absurd (cc)
-released_by (Some (Faulted f)) lock e = absurd (cc)
+released_by _ lock e = absurd (cc)
 
 -- it held that lock
 pub released_held : (image : Shown) (d : Thread) (locks : ℕ → Mutex) (lock : ℕ) → outcome_of (next_act image d locks) ≡ outcome.Unlocked lock → d.held lock ≡ true
@@ -210,10 +176,6 @@ went_on turns (Some k) e = absurd (cc)
 
 -- it leaves no lock to take next, is not the last that a block may have, and leaves the status
 pub goes_on : (d : Thread) (a : Option Act) (turns : ℕ) (next : Option ℕ) → end_rule (outcome_of a) turns next ≡ None → (next ≡ None) × (turns ≢ MAX_TURNS) × ((thread_after d a).status ≡ d.status)
-goes_on d None turns next e = absurd (cc)
 goes_on d (Some (Next regs put)) turns next e = (let p = went_on turns next e in (p.0, p.1, refl))
 goes_on d (Some (Called (Lock lock) regs)) turns next e = (let p = went_on turns next e in (p.0, p.1, refl))
-goes_on d (Some (Called (Unlock lock) regs)) turns next e = absurd (cc)
-goes_on d (Some (Called (Sleep n) regs)) turns next e = absurd (cc)
-goes_on d (Some (Called Exit regs)) turns next e = absurd (cc)
-goes_on d (Some (Faulted f)) turns next e = absurd (cc)
+goes_on d _ turns next e = absurd (cc)

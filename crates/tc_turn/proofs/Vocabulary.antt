@@ -1,4 +1,5 @@
 -- The words of the layers below that most proofs here speak of.
+pub use Rattle.std.proofs.Common.{All, Bool, List, None, Ok, Option, Some, ℕ, ◌%◌, ◌*◌, ◌++◌, ◌+◌, ◌-◌, ◌/◌, ◌<◌, ◌==◌, ◌^◌, ◌∙◌, ◌∷◌, ◌≡◌, ◌≢◌, ◌≤◌, ◌⊎◌, [], ap, append-nil, append_assoc, arith, drop, false, get_or, if◌then◌else◌, inl, inr, length, length-append, map, nat_le, refl, replicate, set, slice_get, subst, suc, sym, take, true, unwrap_or, zero}
 pub use Rattle.std.proofs.lemmas.Bool.{and_parts, false_from_ne_true}
 pub use Rattle.std.proofs.lemmas.Bool.Decides.{eqb_tells, leb_tells, nat_tests}
 pub use Rattle.std.proofs.lemmas.List.{ext_get_or, get_or-drop, get_or-map, get_or-replicate, get_or_default, length-map, length-replicate, length-set, set_past, take_all, with_items_is}
@@ -27,3 +28,5 @@ pub use Rattle.tc_turn.specs.Parts.{AreApart, no_part, part_at, part_has, with_p
 pub use Rattle.tc_turn.specs.Reads.{Covers}
 pub use Rattle.tc_turn.specs.Turn.{Guest, Mutex, Thread, act_with, answer_of, answer_to, byte_at, guard_with, lock_answer, mutex_after, outcome_of, own_after, plus_lock, taken_by, thread_after, when, with_own}
 unfoldable pub use Rattle.tc_turn.specs.Turn.{next_act, next_lock}
+pub use Rattle.tc_exec.specs.declared.outcome.Act.TheVariants.{Called, Faulted, Next}
+pub use Rattle.tc_exec.specs.declared.outcome.Call.TheVariants.{Exit, Lock, Sleep, Unlock}

@@ -1,7 +1,5 @@
 -- The foreign words of a block's turns.
-use Rattle.std.proofs.Common.{◌≡◌, ℕ, zero, suc, ◌+◌, ◌≤◌, Bool, true, false, ◌==◌, [], ◌∷◌, ◌++◌, length, sym, ap, ◌∙◌, arith, append-nil, append_assoc, length-append}
-use Rattle.std.specs.Prelude.{if◌then◌else◌, Option}
-use Rattle.tc_turn.proofs.Vocabulary.{Shown, wants_of, Want, guard_is_held, Thread, Mutex, next_lock, answer_to, Covers}
+use Rattle.tc_turn.proofs.Vocabulary.{◌≡◌, ℕ, zero, suc, ◌+◌, ◌≤◌, Bool, true, false, ◌==◌, [], ◌∷◌, ◌++◌, length, sym, ap, ◌∙◌, arith, append-nil, append_assoc, length-append, if◌then◌else◌, Option, Shown, wants_of, Want, guard_is_held, Thread, Mutex, next_lock, answer_to, Covers}
 use Rattle.tc_turn.specs.Replay.{takes_word, word_of, words_from}
 use Rattle.tc_turn.proofs.Turns.{answer_same}
 

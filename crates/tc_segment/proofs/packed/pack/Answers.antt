@@ -1,6 +1,4 @@
-use Rattle.std.proofs.Common.{◌≡◌, ℕ, ◌+◌, ◌-◌, ◌^◌, ◌<◌, ◌≤◌, ◌∷◌, ◌++◌, List, length, take, drop, set, sym, ap, subst, ◌∙◌, arith, append-nil, length-drop, length-set, w32}
-use Rattle.tc_segment.proofs.Vocabulary.{IsRegisters, Registers, bit_and, mask_of, nonzero, packed, length-set, get_or-drop}
-use Rattle.std.specs.Prelude.{slice_index}
+use Rattle.tc_segment.proofs.Vocabulary.{◌≡◌, ℕ, ◌+◌, ◌-◌, ◌^◌, ◌<◌, ◌≤◌, ◌∷◌, ◌++◌, List, length, take, drop, set, sym, ap, subst, ◌∙◌, arith, append-nil, length-drop, w32, slice_index, IsRegisters, Registers, bit_and, mask_of, nonzero, packed, length-set, get_or-drop}
 use Rattle.std.specs.Int.{trailing_zeros}
 use Rattle.std.proofs.lemmas.Nat.{and_le_r}
 use Rattle.tc_segment.proofs.Packing.{mask_less, picked, picked_all, picked_none, FirstPicked, first_picked, next_fits, stored, two_front}
@@ -29,15 +27,13 @@ loop-left-init c =
 pub bounds-words-number : goal.bounds-words-number
 bounds-words-number c =
     let words = c.words-words.result.now in
-    let n = next words c.args.regs.now c.loop-left.left c.words-words.ensures.value c.words-words.ensures.kept (omega (arith, c.loop-left-test.true)) c.loop-left.invariant.mask in
-    let there = n.there in
+    let there = (next words c.args.regs.now c.loop-left.left c.words-words.ensures.value c.words-words.ensures.kept (omega (arith, c.loop-left-test.true)) c.loop-left.invariant.mask).there in
     omega (arith, there, length-drop 1 words, ap length c.words-words.ensures.value, c.words-words.ensures.kept.count)
 
 pub bounds-buffer-end : goal.bounds-buffer-end
 bounds-buffer-end c =
     let l = c.loop-left in
-    let words = c.words-words.result.now in
-    let n = next words c.args.regs.now l.left c.words-words.ensures.value c.words-words.ensures.kept (omega (arith, c.loop-left-test.true)) l.invariant.mask in
+    let n = next c.words-words.result.now c.args.regs.now l.left c.words-words.ensures.value c.words-words.ensures.kept (omega (arith, c.loop-left-test.true)) l.invariant.mask in
     next_fits l.buffer _ l.end _ c.args.regs.now c.words-words.ensures.kept l.invariant.buffer l.invariant.room (sym (ap (λ xs. take l.end l.buffer ++ xs) n.is) ∙ l.invariant.kept)
 
 pub loop-left-preserved : goal.loop-left-preserved
@@ -46,9 +42,8 @@ loop-left-preserved c =
     let words = c.words-words.result.now in
     let z = trailing_zeros w32 l.left in
     let rest = bit_and l.left (l.left - 1) in
-    let n = next words c.args.regs.now l.left c.words-words.ensures.value c.words-words.ensures.kept (omega (arith, c.loop-left-test.true)) l.invariant.mask in
     let value : slice_index (drop 1 words) z ≡ slice_index words (z + 1) = get_or-drop 1 words z 0 ∙ ap (slice_index words) (let e : 1 + z ≡ z + 1 = omega arith in e) in
-    let kept = sym (λ i. take l.end l.buffer ++ (n.is ∙ (λ j. value j ∷ picked rest (drop 1 words))) i) ∙ l.invariant.kept in
+    let kept = sym (λ i. take l.end l.buffer ++ ((next words c.args.regs.now l.left c.words-words.ensures.value c.words-words.ensures.kept (omega (arith, c.loop-left-test.true)) l.invariant.mask).is ∙ (λ j. value j ∷ picked rest (drop 1 words))) i) ∙ l.invariant.kept in
     let fits = next_fits l.buffer _ l.end _ c.args.regs.now c.words-words.ensures.kept l.invariant.buffer l.invariant.room kept in
     record {
       room = omega (arith, fits);
@@ -61,9 +56,8 @@ pub returns : goal.returns
 returns c =
     let l = c.loop-left in
     let xs = drop 1 c.words-words.result.now in
-    let none = ap (λ m. picked m xs) c.loop-left-test.false ∙ picked_none xs in
     record {
       few = l.invariant.room;
-      is = sym (append-nil (take l.end l.buffer)) ∙ (λ i. take l.end l.buffer ++ sym none i) ∙ l.invariant.kept;
+      is = sym (append-nil (take l.end l.buffer)) ∙ (λ i. take l.end l.buffer ++ sym (ap (λ m. picked m xs) c.loop-left-test.false ∙ picked_none xs) i) ∙ l.invariant.kept;
       whole = c.words-words.ensures.kept;
     }

@@ -1,5 +1,4 @@
-use Rattle.std.proofs.Common.{◌≡◌, ◌^◌, ◌<◌, ◌≤◌, ◌++◌, length, take, drop}
-use Rattle.tc_segment.proofs.Vocabulary.{packed}
+use Rattle.tc_segment.proofs.Vocabulary.{◌≡◌, ◌^◌, ◌<◌, ◌≤◌, ◌++◌, length, take, drop, packed}
 use Rattle.tc_segment.proofs.Packing.{picked}
 use Rattle.tc_segment.proofs.packed.pack.Given as goal
 

@@ -1,5 +1,4 @@
-use Rattle.std.proofs.Common.{◌≡◌, ◌+◌, ◌-◌, ◌/◌, ◌<◌, suc, ◌∷◌, ◌++◌, length, take, set, drop, sym, ap, ◌∙◌, arith}
-use Rattle.tc_segment.proofs.Vocabulary.{Registers, spread, with_register, length-set, regs_at}
+use Rattle.tc_segment.proofs.Vocabulary.{◌≡◌, ◌+◌, ◌-◌, ◌/◌, ◌<◌, suc, ◌∷◌, ◌++◌, length, take, set, drop, sym, ap, ◌∙◌, arith, Registers, spread, with_register, length-set, regs_at}
 use Rattle.tc_segment.proofs.Packing.{spread_some, spread_none, stored, put_words, all_stored}
 use Rattle.tc_segment.proofs.packed.unpack.Goals as goal
 use Rattle.tc_segment.proofs.packed.unpack.Goals.{then-mask-eq1, else-mask-eq1}
@@ -34,10 +33,7 @@ loop-number-preserved c =
           ∙ ap (λ ys. take n ws ++ ys) (sym (spread_none k (32 - n) l.mask (drop l.at xs) more w.if-mask-eq1.false)) ∙ l.invariant.words
     ]) in
     record {
-      reach = (let h = l.invariant.reach in elim c.if-mask-eq1.branch [
-        | then-mask-eq1 w ↦ omega (arith, h, w.at-is)
-        | else-mask-eq1 w ↦ omega (arith, h, w.at-is)
-      ]);
+      reach = (let h = l.invariant.reach in elim c.if-mask-eq1.branch [ then-mask-eq1 w ↦ omega (arith, h, w.at-is) | else-mask-eq1 w ↦ omega (arith, h, w.at-is) ]);
       count = ap length words ∙ length-set ws n c.if-mask-eq1.value ∙ l.invariant.count;
       pc = ap (λ (r : Registers). r.pc) put ∙ l.invariant.pc;
       words = ap (λ ys. take (n + 1) ys ++ spread k (l.mask / 2) (drop c.if-mask-eq1.at xs)) words ∙ stored ws n c.if-mask-eq1.value (spread k (l.mask / 2) (drop c.if-mask-eq1.at xs)) (regs_at xs c.args.place).words there rest;
@@ -46,5 +42,4 @@ loop-number-preserved c =
 pub returns : goal.returns
 returns c =
     let l = c.loop-number in
-    let words = all_stored l.regs.words l.number (32 - l.number) l.mask (drop l.at c.args.words.now) _ (omega (arith, c.loop-number-test.false, l.invariant.count)) (omega (arith, c.loop-number-test.false)) l.invariant.words in
-    λ i. record { pc = l.invariant.pc i; words = words i }
+    λ i. record { pc = l.invariant.pc i; words = (all_stored l.regs.words l.number (32 - l.number) l.mask (drop l.at c.args.words.now) _ (omega (arith, c.loop-number-test.false, l.invariant.count)) (omega (arith, c.loop-number-test.false)) l.invariant.words) i }

@@ -1,5 +1,4 @@
-use Rattle.std.proofs.Common.{◌≡◌, ◌+◌, ◌-◌, ◌≤◌, ◌++◌, length, take, drop}
-use Rattle.tc_segment.proofs.Vocabulary.{regs_at, spread}
+use Rattle.tc_segment.proofs.Vocabulary.{◌≡◌, ◌+◌, ◌-◌, ◌≤◌, ◌++◌, length, take, drop, regs_at, spread}
 use Rattle.tc_segment.proofs.packed.unpack.Given as goal
 
 -- the registers below this number are there, and the others come

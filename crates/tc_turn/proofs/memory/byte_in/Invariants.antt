@@ -1,5 +1,4 @@
-use Rattle.std.proofs.Common.{◌≡◌, drop}
-use Rattle.tc_turn.proofs.Vocabulary.{own_of}
+use Rattle.tc_turn.proofs.Vocabulary.{◌≡◌, drop, own_of}
 use Rattle.tc_turn.proofs.memory.byte_in.Given as goal
 
 abbrev pub invariant-loop-part : goal.invariant-loop-part

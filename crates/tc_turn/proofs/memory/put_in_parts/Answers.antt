@@ -1,6 +1,5 @@
-use Rattle.std.proofs.Common.{◌∙◌, ap, sym, set, arith}
+use Rattle.tc_turn.proofs.Vocabulary.{◌∙◌, ap, sym, set, arith, Part, part_with, put_number}
 use Rattle.std.proofs.lemmas.List.Edits.{map_over_more}
-use Rattle.tc_turn.proofs.Vocabulary.{Part, part_with, put_number}
 use Rattle.tc_turn.proofs.PartLaws.{part_written}
 use Rattle.tc_turn.proofs.memory.put_in_parts.Goals as goal
 

@@ -1,5 +1,4 @@
-use Rattle.std.proofs.Common.{◌≡◌, ◌++◌, map, take, drop}
-use Rattle.tc_turn.proofs.Vocabulary.{part_with}
+use Rattle.tc_turn.proofs.Vocabulary.{◌≡◌, ◌++◌, map, take, drop, part_with}
 use Rattle.tc_turn.proofs.memory.put_in_parts.Given as goal
 
 abbrev pub invariant-loop-part : goal.invariant-loop-part

@@ -1,5 +1,4 @@
-use Rattle.std.proofs.Common.{◌≡◌, true, ◌∙◌, ap, set, sym, subst, arith}
-use Rattle.tc_turn.proofs.Vocabulary.{get_or_default, Part, part_with, put_number, no_part, part_at, part_has}
+use Rattle.tc_turn.proofs.Vocabulary.{◌≡◌, true, ◌∙◌, ap, set, sym, subst, arith, get_or_default, Part, part_with, put_number, no_part, part_at, part_has}
 use Rattle.tc_turn.proofs.PartLaws.{put_there, part_written}
 use Rattle.tc_turn.proofs.memory.put_near.Goals as goal
 

@@ -1,6 +1,4 @@
-use Rattle.std.proofs.Common.{◌+◌, ap, ◌∙◌, sym, ◌++◌, ◌∷◌, [], refl}
-use Rattle.tc_turn.proofs.Vocabulary.{starting_byte, starting_bytes, map-range_with_len_more}
-use Rattle.std.specs.Prelude.{unwrap_or}
+use Rattle.tc_turn.proofs.Vocabulary.{◌+◌, ap, ◌∙◌, sym, ◌++◌, ◌∷◌, [], refl, unwrap_or, starting_byte, starting_bytes, map-range_with_len_more}
 use Rattle.tc_turn.proofs.memory.single_bytes.Goals as goal
 
 pub loop-i-preserved : goal.loop-i-preserved

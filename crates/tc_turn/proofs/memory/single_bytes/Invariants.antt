@@ -1,5 +1,4 @@
-use Rattle.std.proofs.Common.{◌≡◌}
-use Rattle.tc_turn.proofs.Vocabulary.{starting_bytes}
+use Rattle.tc_turn.proofs.Vocabulary.{◌≡◌, starting_bytes}
 use Rattle.tc_turn.proofs.memory.single_bytes.Given as goal
 
 abbrev pub invariant-loop-i : goal.invariant-loop-i

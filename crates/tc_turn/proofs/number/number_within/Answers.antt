@@ -1,5 +1,4 @@
-use Rattle.std.proofs.Common.{◌∙◌, ◌-◌, ◌≤◌, arith}
-use Rattle.tc_turn.proofs.Vocabulary.{nat_tests, and_parts}
+use Rattle.tc_turn.proofs.Vocabulary.{◌∙◌, ◌-◌, ◌≤◌, arith, nat_tests, and_parts}
 use Rattle.tc_turn.proofs.Numbers.{number_there}
 use Rattle.tc_turn.proofs.number.number_within.Goals as goal
 

@@ -1,6 +1,4 @@
-use Rattle.std.proofs.Common.{◌∙◌, ℕ, false, ◌==◌, refl, ap, sym, subst, None, if◌then◌else◌}
-use Rattle.tc_context.proofs.Vocabulary.{option_map, has, act_with, TurnReady, TurnFits, thread_in, journal_in, done_of, faulted_if}
-use Rattle.tc_exec.specs.declared.outcome.Want.TheVariants.{Nothing}
+use Rattle.tc_context.proofs.Vocabulary.{◌∙◌, ℕ, false, ◌==◌, refl, ap, sym, subst, None, if◌then◌else◌, option_map, has, act_with, TurnReady, TurnFits, thread_in, journal_in, done_of, faulted_if, Nothing}
 use Rattle.tc_context.specs.Locks.{Changed, turned as turned_by}
 use Rattle.tc_context.proofs.Moved.{turn_ready, turn_fits, none_noted, did_turn}
 use Rattle.tc_context.proofs.context.Context.fault_turn.Goals as goal

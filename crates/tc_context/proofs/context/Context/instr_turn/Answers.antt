@@ -1,5 +1,4 @@
-use Rattle.std.proofs.Common.{◌≡◌, ℕ, true, ◌==◌, refl, ap, sym, subst, None}
-use Rattle.tc_context.proofs.Vocabulary.{option_map, has, act_with, TurnReady, TurnFits, thread_in, journal_in, done_of}
+use Rattle.tc_context.proofs.Vocabulary.{◌≡◌, ℕ, true, ◌==◌, refl, ap, sym, subst, None, option_map, has, act_with, TurnReady, TurnFits, thread_in, journal_in, done_of}
 use Rattle.tc_context.proofs.Moved.{turn_ready, turn_fits, noting_block, noted_lock, did_turn}
 use Rattle.tc_context.proofs.context.Context.instr_turn.Goals as goal
 

@@ -1,5 +1,4 @@
-use Rattle.std.proofs.Common.{sym, subst}
-use Rattle.tc_context.proofs.Vocabulary.{has, Guest, IsLoad, MayRun, HasGone}
+use Rattle.tc_context.proofs.Vocabulary.{sym, subst, has, Guest, IsLoad, MayRun, HasGone}
 use Rattle.tc_context.proofs.Stepping.{with_both, own_loaded, note_may}
 use Rattle.tc_context.proofs.context.Context.load.Goals as goal
 

@@ -1,8 +1,5 @@
-use Rattle.std.proofs.Common.{◌≡◌, ◌∙◌, ap, sym, subst, None}
-use Rattle.tc_elf.specs.declared.image.Region.TheVariants.{Guard}
-use Rattle.tc_exec.specs.declared.outcome.Want.TheVariants.{Load}
+use Rattle.tc_context.proofs.Vocabulary.{◌≡◌, ◌∙◌, ap, sym, subst, None, Guard, Load, has, Guest, Changed, noted_in, answer_to, thread_in, mutex_at, with_register, region_of, extended, load_width, at_next, load_ends, HasLoaded, IsAccess}
 use Rattle.tc_exec.specs.declared.touch.Touched.TheVariants as touched
-use Rattle.tc_context.proofs.Vocabulary.{has, Guest, Changed, noted_in, answer_to, thread_in, mutex_at, with_register, region_of, extended, load_width, at_next, load_ends, HasLoaded, IsAccess}
 use Rattle.tc_context.proofs.Stepping.{with_both, load_gone, own_loaded, note_may}
 use Rattle.tc_context.proofs.context.Context.load_by.Goals as goal
 
@@ -17,8 +14,7 @@ returns-in-Own c =
 
 pub guard_number-number-requires : goal.guard_number-number-requires
 guard_number-number-requires c =
-    let i = c.in-Guard in
-    let is = subst (HasLoaded c.args.image.now c.args.kind c.args.rd c.args.addr c.args.self.now.guest c.load.new.self) i.is c.load.ensures in
+    let is = subst (HasLoaded c.args.image.now c.args.kind c.args.rd c.args.addr c.args.self.now.guest c.load.new.self) c.in-Guard.is c.load.ensures in
     let ends = load_ends c.args.kind c.args.addr c.ranges.addr.fits is.guard.aligned in
     subst (IsAccess c.args.addr) (sym is.width) (record { fits = ends.0; small = ends.1 })
 
@@ -32,10 +28,8 @@ returns-in-Guard c =
     let i = c.in-Guard in
     let is = subst (HasLoaded image c.args.kind c.args.rd c.args.addr p.guest c.load.new.self) i.is c.load.ensures in
     let number = c.guard_number-number.result in
-    let place = region_of image c.args.addr (load_width c.args.kind) in
-    let want : Load (Guard i.lock) c.args.addr i.width ≡ Load place c.args.addr (load_width c.args.kind) = λ j. Load (sym is.guard.lies.0 j) c.args.addr (is.width j) in
-    let found = subst (λ (g : Guest). number ≡ answer_to image (Load (Guard i.lock) c.args.addr i.width) None (thread_in (with_both p g p.locks)).own (mutex_at (with_both p g p.locks))) is.rest c.guard_number-number.ensures in
+    let want : Load (Guard i.lock) c.args.addr i.width ≡ Load (region_of image c.args.addr (load_width c.args.kind)) c.args.addr (load_width c.args.kind) = λ j. Load (sym is.guard.lies.0 j) c.args.addr (is.width j) in
     load_gone image (has c.args.block) p c.finish.new.self c.args.kind c.args.rd c.args.addr number (touched.Guard i.lock) c.note_each.new.self c.requires.may.of c.requires.load is.guard
-    (found ∙ (λ j. answer_to image (want j) None (thread_in p).own (mutex_at p)))
+    ((subst (λ (g : Guest). number ≡ answer_to image (Load (Guard i.lock) c.args.addr i.width) None (thread_in (with_both p g p.locks)).own (mutex_at (with_both p g p.locks))) is.rest c.guard_number-number.ensures) ∙ (λ j. answer_to image (want j) None (thread_in p).own (mutex_at p)))
     (c.finish.ensures ∙ ap (λ (g : Guest). record g { regs = at_next (with_register g.regs c.args.rd (extended c.args.kind number)) }) is.rest)
     (subst (λ w. Changed (noted_in (has c.args.block) w None number) p.locks c.note_each.new.self) want c.note_each.ensures)

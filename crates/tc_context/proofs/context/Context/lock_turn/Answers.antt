@@ -1,8 +1,5 @@
-use Rattle.std.proofs.Common.{◌∙◌, false, refl, ap, sym, arith, Some, if◌then◌else◌}
-use Rattle.tc_context.proofs.Vocabulary.{option_map, has, thread_after, thread_in, journal_in, nat_tests, done_of, next_wants, next_fueled, next_acts, next_known}
+use Rattle.tc_context.proofs.Vocabulary.{◌∙◌, false, refl, ap, sym, arith, Some, if◌then◌else◌, option_map, has, thread_after, thread_in, journal_in, nat_tests, done_of, next_wants, next_fueled, next_acts, next_known, Lock, Nothing}
 use Rattle.tc_exec.specs.declared.outcome.Done.TheVariants.{Called}
-use Rattle.tc_exec.specs.declared.outcome.Call.TheVariants.{Lock}
-use Rattle.tc_exec.specs.declared.outcome.Want.TheVariants.{Nothing}
 use Rattle.tc_context.proofs.Moved.{noted_lock, did_turn}
 use Rattle.tc_context.proofs.context.Context.lock_turn.Goals as goal
 

@@ -1,5 +1,4 @@
-use Rattle.std.proofs.Common.{arith}
-use Rattle.tc_context.proofs.Vocabulary.{has}
+use Rattle.tc_context.proofs.Vocabulary.{arith, has}
 use Rattle.tc_context.proofs.Stepping.{may_less}
 use Rattle.tc_context.proofs.context.Context.run.Goals as goal
 

@@ -1,5 +1,4 @@
-use Rattle.std.proofs.Common.{◌-◌, ◌<◌, refl, sym, ◌∙◌, subst, arith, rules, IfSome}
-use Rattle.tc_context.proofs.Vocabulary.{thread_in, next_small}
+use Rattle.tc_context.proofs.Vocabulary.{◌-◌, ◌<◌, refl, sym, ◌∙◌, subst, arith, rules, IfSome, thread_in, next_small}
 use Rattle.tc_context.proofs.Partway.{runs_some}
 use Rattle.tc_context.proofs.Ended.{held_ready, taken_ready}
 use Rattle.tc_context.proofs.Blocked.{begins_from, begun_may, unsealed, old_slept, finished_runs, finished_journals}
@@ -18,22 +17,15 @@ open_entries-requires c =
 
 pub turns-turns-requires : goal.turns-turns-requires
 turns-turns-requires c =
-    let image = c.args.image.now in
-    let old = c.args.self.now in
-    let held = c.block_held-held.result in
-    let begins = begins_from image old held c.open_entries.new.self c.requires.may.takes c.held-on.ensures c.regs-start.ensures c.fuel-fuel.ensures c.block_held-held.ensures c.open_entries.ensures in
     record {
       code = c.requires.may.code;
-      may = begun_may c.requires.may begins;
+      may = begun_may c.requires.may (begins_from c.args.image.now c.args.self.now c.block_held-held.result c.open_entries.new.self c.requires.may.takes c.held-on.ensures c.regs-start.ensures c.fuel-fuel.ensures c.block_held-held.ensures c.open_entries.ensures);
       ahead = record { lock = c.requires.may.takes; instr = tt };
     }
 
 pub returns : goal.returns
 returns c =
-    let image = c.args.image.now in
-    let old = c.args.self.now in
-    let held = c.block_held-held.result in
-    let begins = begins_from image old held c.open_entries.new.self c.requires.may.takes c.held-on.ensures c.regs-start.ensures c.fuel-fuel.ensures c.block_held-held.ensures c.open_entries.ensures in
+    let begins = begins_from c.args.image.now c.args.self.now c.block_held-held.result c.open_entries.new.self c.requires.may.takes c.held-on.ensures c.regs-start.ensures c.fuel-fuel.ensures c.block_held-held.ensures c.open_entries.ensures in
     let ran = c.turns-turns in
     record {
       did = record {

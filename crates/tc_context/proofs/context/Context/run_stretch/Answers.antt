@@ -1,5 +1,4 @@
-use Rattle.std.proofs.Common.{◌≡◌, suc, ◌-◌, refl, ap, subst, ◌∙◌, arith}
-use Rattle.tc_context.proofs.Vocabulary.{has, GoesOn, Registers, MayRun, IsGone, HasGone, fuelled}
+use Rattle.tc_context.proofs.Vocabulary.{◌≡◌, suc, ◌-◌, refl, ap, subst, ◌∙◌, arith, has, GoesOn, Registers, MayRun, IsGone, HasGone, fuelled}
 use Rattle.tc_context.proofs.Stepping.{run_more, may_less, may_gone}
 use Rattle.tc_context.proofs.context.Context.run_stretch.Goals as goal
 use Rattle.tc_context.proofs.context.Context.run_stretch.Goals.{in-Next, in-Jumps}

@@ -1,6 +1,4 @@
-use Rattle.std.proofs.Common.{◌≡◌, ◌≤◌, ◌<◌, ◌+◌, ◌*◌, ◌-◌}
-use Rattle.std.specs.Prelude.{length}
-use Rattle.tc_context.proofs.Vocabulary.{has, GoesOn, MayRun, fuelled}
+use Rattle.tc_context.proofs.Vocabulary.{◌≡◌, ◌≤◌, ◌<◌, ◌+◌, ◌*◌, ◌-◌, length, has, GoesOn, MayRun, fuelled}
 use Rattle.tc_context.proofs.context.Context.run_stretch.Given as goal
 
 abbrev pub invariant-run : goal.invariant-run

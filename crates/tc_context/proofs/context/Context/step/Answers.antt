@@ -1,5 +1,4 @@
-use Rattle.std.proofs.Common.{sym, subst, []}
-use Rattle.tc_context.proofs.Vocabulary.{has, Guest, IsLoad, IsStore, HasExecuted, MayRun, HasGone}
+use Rattle.tc_context.proofs.Vocabulary.{sym, subst, has, Guest, IsLoad, IsStore, HasExecuted, MayRun, HasGone}
 use Rattle.tc_context.proofs.Stepping.{with_both, plain_gone, may_held}
 use Rattle.tc_context.proofs.context.Context.step.Goals as goal
 

@@ -1,5 +1,4 @@
-use Rattle.std.proofs.Common.{subst}
-use Rattle.tc_context.proofs.Vocabulary.{Guest, HasGone}
+use Rattle.tc_context.proofs.Vocabulary.{subst, Guest, HasGone}
 use Rattle.tc_context.proofs.Stepping.{with_both, own_stored}
 use Rattle.tc_context.proofs.context.Context.store.Goals as goal
 

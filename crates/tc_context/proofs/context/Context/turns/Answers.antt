@@ -1,5 +1,4 @@
-use Rattle.std.proofs.Common.{◌+◌, ◌≤◌, ◌∙◌, ap, sym, subst, arith, refl}
-use Rattle.tc_context.proofs.Vocabulary.{has, MAX_TURNS, DidTurns, end_rule}
+use Rattle.tc_context.proofs.Vocabulary.{◌+◌, ◌∙◌, ap, sym, subst, arith, refl, has, DidTurns, end_rule}
 use Rattle.tc_context.proofs.Partway.{partway_start, went_lock, on_first, on_run, on_may, on_ends, on_goes, may_here, told_ends, told_on}
 use Rattle.tc_context.proofs.context.Context.turns.Goals as goal
 use Rattle.tc_context.proofs.context.Context.turns.Goals.{in-Some, in_default}
@@ -16,52 +15,40 @@ ahead-ahead-requires-clause-first c =
 -- behind the run
 pub returns-in-Some-end_of : goal.returns-in-Some-end_of
 returns-in-Some-end_of c =
-    let image = c.args.image.now in
     let run = c.run-run in
-    let n = c.block.count + run.result.count in
     let on = on_run c.requires.may c.block.count run.result.count c.block.self run.new.self c.block.invariant.on (let most = run.ensures.most in let before = c.block.invariant.most in omega arith) run.ensures.runs in
     record {
-      did = subst (DidTurns image (has c.args.block) c.args.self.now run.new.self) (sym c.ended.ensures)
-          (on_ends n c.in-Some-end_of.end c.requires.may on c.ahead-ahead.ensures.lock (sym c.end_of.ensures ∙ c.in-Some-end_of.is));
+      did = subst (DidTurns c.args.image.now (has c.args.block) c.args.self.now run.new.self) (sym c.ended.ensures)
+          (on_ends (c.block.count + run.result.count) c.in-Some-end_of.end c.requires.may on c.ahead-ahead.ensures.lock (sym c.end_of.ensures ∙ c.in-Some-end_of.is));
     }
 
 pub other_turn-done-requires : goal.other_turn-done-requires
 other_turn-done-requires c =
     let run = c.run-run in
-    let n = c.block.count + run.result.count in
-    let few : n ≤ MAX_TURNS = (let most = run.ensures.most in let before = c.block.invariant.most in omega arith) in
-    let on = on_run c.requires.may c.block.count run.result.count c.block.self run.new.self c.block.invariant.on few run.ensures.runs in
-    let goes = on_goes n c.requires.may on few c.ahead-ahead.ensures.lock (sym c.end_of.ensures ∙ c.in_default-end_of.is) in
+    let goes = on_goes c.block.count run.result.count c.block.self run.new.self c.requires.may c.block.invariant.on run.ensures.runs (let most = run.ensures.most in let before = c.block.invariant.most in omega arith) c.ahead-ahead.ensures.lock (sym c.end_of.ensures ∙ c.in_default-end_of.is) in
     record { code = c.requires.code; may = may_here c.requires.may goes.0; ahead = record { lock = sym goes.1 ∙ c.ahead-ahead.ensures.lock; instr = c.ahead-ahead.ensures.instr } }
 
 -- behind any other turn
 pub returns-in-Some-end_of-2 : goal.returns-in-Some-end_of-2
 returns-in-Some-end_of-2 c =
-    let image = c.args.image.now in
     let run = c.run-run in
     let turn = c.other_turn-done in
     let n = c.block.count + run.result.count in
-    let few : n ≤ MAX_TURNS = (let most = run.ensures.most in let before = c.block.invariant.most in omega arith) in
-    let on = on_run c.requires.may c.block.count run.result.count c.block.self run.new.self c.block.invariant.on few run.ensures.runs in
-    let goes = on_goes n c.requires.may on few c.ahead-ahead.ensures.lock (sym c.end_of.ensures ∙ c.in_default-end_of.is) in
+    let goes = on_goes c.block.count run.result.count c.block.self run.new.self c.requires.may c.block.invariant.on run.ensures.runs (let most = run.ensures.most in let before = c.block.invariant.most in omega arith) c.ahead-ahead.ensures.lock (sym c.end_of.ensures ∙ c.in_default-end_of.is) in
     let behind = c.ahead-behind in
     let rule = ap (λ o. end_rule o (n + 1) behind.result.lock) (sym c.outcome_by.ensures) ∙ sym c.end_of-in-block.ensures ∙ c.in-Some-end_of-2.is in
     let told = c.ended-in-Some-end_of-2.ensures ∙ (λ i. record { end = c.in-Some-end_of-2.end; count = n + 1; slept = c.slept_by.ensures i; next = behind.result.lock }) in
     record {
-      did = subst (DidTurns image (has c.args.block) c.args.self.now turn.new.self) (sym told) (told_ends goes.0 turn.ensures.did behind.ensures.lock c.requires.may.go c.in-Some-end_of-2.end rule);
+      did = subst (DidTurns c.args.image.now (has c.args.block) c.args.self.now turn.new.self) (sym told) (told_ends goes.0 turn.ensures.did behind.ensures.lock c.requires.may.go c.in-Some-end_of-2.end rule);
     }
 
 pub block-preserved : goal.block-preserved
 block-preserved c =
     let run = c.run-run in
-    let turn = c.other_turn-done in
-    let n = c.block.count + run.result.count in
-    let few : n ≤ MAX_TURNS = (let most = run.ensures.most in let before = c.block.invariant.most in omega arith) in
-    let on = on_run c.requires.may c.block.count run.result.count c.block.self run.new.self c.block.invariant.on few run.ensures.runs in
-    let goes = on_goes n c.requires.may on few c.ahead-ahead.ensures.lock (sym c.end_of.ensures ∙ c.in_default-end_of.is) in
+    let goes = on_goes c.block.count run.result.count c.block.self run.new.self c.requires.may c.block.invariant.on run.ensures.runs (let most = run.ensures.most in let before = c.block.invariant.most in omega arith) c.ahead-ahead.ensures.lock (sym c.end_of.ensures ∙ c.in_default-end_of.is) in
     let behind = c.ahead-behind in
-    let rule = ap (λ o. end_rule o (n + 1) behind.result.lock) (sym c.outcome_by.ensures) ∙ sym c.end_of-in-block.ensures ∙ c.in_default-end_of-2.is in
-    record { most = (let short = goes.0.short in omega arith); on = told_on goes.0 turn.ensures.did behind.ensures.lock rule }
+    let rule = ap (λ o. end_rule o ((c.block.count + run.result.count) + 1) behind.result.lock) (sym c.outcome_by.ensures) ∙ sym c.end_of-in-block.ensures ∙ c.in_default-end_of-2.is in
+    record { most = (let short = goes.0.short in omega arith); on = told_on goes.0 c.other_turn-done.ensures.did behind.ensures.lock rule }
 
 pub block-init : goal.block-init
 block-init c =

@@ -1,5 +1,4 @@
-use Rattle.std.proofs.Common.{◌-◌, ◌≤◌}
-use Rattle.tc_context.proofs.Vocabulary.{has, MAX_TURNS}
+use Rattle.tc_context.proofs.Vocabulary.{◌-◌, ◌≤◌, has, MAX_TURNS}
 use Rattle.tc_context.proofs.Partway.{IsOn}
 use Rattle.tc_context.proofs.context.Context.turns.Given as goal
 

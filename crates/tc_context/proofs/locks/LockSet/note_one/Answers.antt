@@ -1,5 +1,4 @@
-use Rattle.std.proofs.Common.{◌∙◌, ◌<◌, [], ◌∷◌, length, ap, sym, arith, Some}
-use Rattle.tc_context.proofs.Vocabulary.{option_map, LockView, with_journal, noted, lock_in, when_in, at_place, takes_word}
+use Rattle.tc_context.proofs.Vocabulary.{◌∙◌, ◌<◌, [], ◌∷◌, length, ap, sym, arith, Some, option_map, LockView, with_journal, noted, lock_in, when_in, at_place, takes_word}
 use Rattle.tc_context.proofs.LockList.{changed_place}
 use Rattle.tc_context.proofs.locks.LockSet.note_one.Goals.{in-Some+then-takes_word, in-Some+else-takes_word, in_default}
 use Rattle.tc_context.proofs.locks.LockSet.note_one.Goals as goal

@@ -1,5 +1,4 @@
-use Rattle.std.proofs.Common.{◌≡◌, sym, subst, IfSome, false}
-use Rattle.tc_context.proofs.Vocabulary.{has, HoldsAt, IsReady, Changed, at_place, opened_in, opened_at, lock_of, with_journal, locks_of_block}
+use Rattle.tc_context.proofs.Vocabulary.{◌≡◌, sym, subst, IfSome, false, has, HoldsAt, IsReady, Changed, at_place, opened_in, opened_at, lock_of, with_journal, locks_of_block}
 use Rattle.tc_context.proofs.Ended.{still_ready, opened_both}
 use Rattle.tc_context.proofs.locks.LockSet.open_entries.Goals as goal
 

@@ -1,5 +1,4 @@
-use Rattle.std.proofs.Common.{arith}
-use Rattle.tc_context.proofs.Vocabulary.{has, MayGoOn, opened_in}
+use Rattle.tc_context.proofs.Vocabulary.{arith, has, MayGoOn, opened_in}
 use Rattle.tc_context.proofs.LockList.{next_here}
 use Rattle.tc_context.proofs.locks.LockSet.open_held.Goals as goal
 

@@ -1,5 +1,4 @@
-use Rattle.std.proofs.Common.{◌≡◌, refl, subst, Some}
-use Rattle.tc_context.proofs.Vocabulary.{LockView, StoreFits, StoreReady, lock_in}
+use Rattle.tc_context.proofs.Vocabulary.{◌≡◌, refl, subst, Some, LockView, StoreFits, StoreReady, lock_in}
 use Rattle.tc_context.proofs.locks.LockSet.put.Goals as goal
 
 pub store-requires : goal.store-requires

@@ -1,5 +1,4 @@
-use Rattle.std.proofs.Common.{sym, subst}
-use Rattle.tc_context.proofs.Vocabulary.{has, CanSeal, EachHeld}
+use Rattle.tc_context.proofs.Vocabulary.{sym, subst, has, CanSeal, EachHeld}
 use Rattle.tc_context.proofs.locks.LockSet.seal.Goals as goal
 
 pub seal_each-requires : goal.seal_each-requires

@@ -1,5 +1,4 @@
-use Rattle.std.proofs.Common.{arith}
-use Rattle.tc_context.proofs.Vocabulary.{has, CanSeal, sealed_in}
+use Rattle.tc_context.proofs.Vocabulary.{arith, has, CanSeal, sealed_in}
 use Rattle.tc_context.proofs.LockList.{next_here}
 use Rattle.tc_context.proofs.locks.LockSet.seal_each.Goals as goal
 

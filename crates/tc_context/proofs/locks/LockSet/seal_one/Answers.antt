@@ -1,10 +1,8 @@
-use Rattle.std.proofs.Common.{◌∙◌, ap, sym, arith}
-use Rattle.tc_context.proofs.Vocabulary.{lock_in}
+use Rattle.tc_context.proofs.Vocabulary.{◌∙◌, ap, sym, arith, lock_in}
 use Rattle.tc_context.proofs.LockList.{place_is}
 use Rattle.tc_context.proofs.locks.LockSet.seal_one.Goals as goal
 
 pub close_sealed-requires : goal.close_sealed-requires
 close_sealed-requires c =
-    let found = ap (λ s. lock_in s c.args.lock) (sym c.self.view_is) ∙ place_is c.self.inside.places.items c.args.lock c.index_mut.result.now (omega (arith, c.requires.place, c.self.invariant)) c.index_mut.ensures.value ∙ c.in-Some.is in
-    let can = c.requires.lock c.in-Some.state found in
+    let can = c.requires.lock c.in-Some.state (ap (λ s. lock_in s c.args.lock) (sym c.self.view_is) ∙ place_is c.self.inside.places.items c.args.lock c.index_mut.result.now (omega (arith, c.requires.place, c.self.invariant)) c.index_mut.ensures.value ∙ c.in-Some.is) in
     record { opened = can.opened; ended = can.ended; closes = can.closes; follows = can.follows; passes = can.passes }

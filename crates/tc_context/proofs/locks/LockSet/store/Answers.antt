@@ -1,5 +1,4 @@
-use Rattle.std.proofs.Common.{◌∙◌, ◌<◌, length, ap, sym, arith, Some}
-use Rattle.tc_context.proofs.Vocabulary.{option_map, LockView, with_store, lock_in, at_place}
+use Rattle.tc_context.proofs.Vocabulary.{◌∙◌, ◌<◌, length, ap, sym, arith, Some, option_map, LockView, with_store, lock_in, at_place}
 use Rattle.tc_context.proofs.LockList.{changed_place}
 use Rattle.tc_context.proofs.locks.LockSet.store.Goals.{in-Some, in_default}
 use Rattle.tc_context.proofs.locks.LockSet.store.Goals as goal

@@ -1,5 +1,4 @@
-use Rattle.std.proofs.Common.{◌∙◌, ap, refl, subst, Some}
-use Rattle.tc_context.proofs.Vocabulary.{has, TurnFits, TurnReady}
+use Rattle.tc_context.proofs.Vocabulary.{◌∙◌, ap, refl, subst, Some, has, TurnFits, TurnReady}
 use Rattle.tc_exec.specs.declared.outcome.Done.TheVariants.{Called}
 use Rattle.tc_context.proofs.locks.LockSet.take_turn.Goals as goal
 

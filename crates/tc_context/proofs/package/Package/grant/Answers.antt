@@ -1,8 +1,6 @@
-use Rattle.std.proofs.Common.{◌≡◌, ◌==◌, ◌∙◌, ap, sym, subst, set, arith, Some, None, slice_index_or, if◌then◌else◌}
-use Rattle.tc_context.proofs.Vocabulary.{AreEnded, Gives, IsAtRest, PackageView, IsSoundPackage, IsWaiting, MayPassTo, lock_in, locks_with, number_in, view_of, view_with, with_grant, get_or-set}
-use Rattle.tc_context.proofs.LockList.{with_locks}
+use Rattle.tc_context.proofs.Vocabulary.{◌≡◌, ◌==◌, ◌∙◌, ap, sym, subst, set, arith, Some, None, slice_index_or, if◌then◌else◌, AreEnded, Gives, IsAtRest, PackageView, IsSoundPackage, IsWaiting, MayPassTo, lock_in, locks_with, number_in, view_of, view_with, with_grant, get_or-set}
 use Rattle.tc_context.proofs.Ended.{ended_placed}
-use Rattle.tc_context.proofs.Staging.{rests, shows, granted_sound, set_with, wanted}
+use Rattle.tc_context.proofs.Staging.{rests, shows, granted_sound, set_with, wanted, with_locks}
 use Rattle.tc_context.proofs.Rooms.{gives_placed}
 use Rattle.tc_context.proofs.package.Package.grant.Goals as goal
 
@@ -40,8 +38,7 @@ invariant_of-self c =
 
 pub returns-clause-is : goal.returns-clause-is
 returns-clause-is c =
-    let s = shows c.deref_mut-contents.ensures.value c.self.view_is c.self.invariant in
-    let r = rests s c.requires.waiting.pending in
+    let r = rests (shows c.deref_mut-contents.ensures.value c.self.view_is c.self.invariant) c.requires.waiting.pending in
     let p = view_with None c.deref_mut-contents.result.now in
     let n = c.number.ensures.is in
     ap (λ o. record p {
@@ -55,10 +52,8 @@ returns-clause-is c =
 
 pub returns-clause-locks : goal.returns-clause-locks
 returns-clause-locks c =
-    let s = shows c.deref_mut-contents.ensures.value c.self.view_is c.self.invariant in
-    let r = rests s c.requires.waiting.pending in
-    let regs = c.deref_mut-contents.result.now.context.guest.regs in
-    λ k. ap (λ o. lock_in (locks_with o regs c.put_in.new.self) k) r.none ∙ c.put_in.ensures.locks k
+    let r = rests (shows c.deref_mut-contents.ensures.value c.self.view_is c.self.invariant) c.requires.waiting.pending in
+    λ k. ap (λ o. lock_in (locks_with o c.deref_mut-contents.result.now.context.guest.regs c.put_in.new.self) k) r.none ∙ c.put_in.ensures.locks k
     ∙ ap (λ (v : PackageView). if k == c.args.lock.number then Some c.args.lock else lock_in v.context.locks k) r.is
 
 pub returns-clause-numbers : goal.returns-clause-numbers
@@ -68,7 +63,6 @@ returns-clause-numbers c =
     let p = view_of c.deref_mut-contents.result.now in
     let n = c.args.lock.number in
     let number = c.args.number in
-    let waiting = subst (λ v. IsWaiting v n) (sym s.is) c.requires.waiting in
-    let small = (wanted p s.kept.sound n waiting.want).small in
+    let small = (wanted p s.kept.sound n (subst (λ v. IsWaiting v n) (sym s.is) c.requires.waiting).want).small in
     let full = s.kept.sound.places.1 in
     ap (λ j. slice_index_or (set p.numbers j number) k 0) c.number.ensures.is ∙ get_or-set p.numbers n k number 0 (omega (arith, small, full)) ∙ ap (λ v. if k == n then number else number_in v k) s.is

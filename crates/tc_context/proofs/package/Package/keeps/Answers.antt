@@ -1,5 +1,4 @@
-use Rattle.std.proofs.Common.{subst, ℕ, ◌≡◌, Some}
-use Rattle.tc_context.proofs.Vocabulary.{PackageView, want_of, IsWanted, LastIsSealed, view_of}
+use Rattle.tc_context.proofs.Vocabulary.{subst, ℕ, ◌≡◌, Some, PackageView, want_of, IsWanted, LastIsSealed, view_of}
 use Rattle.tc_context.proofs.Staging.{wanted, last_sealed}
 use Rattle.tc_context.proofs.package.Package.keeps.Goals as goal
 

@@ -1,5 +1,4 @@
-use Rattle.std.proofs.Common.{refl}
-use Rattle.tc_context.specs.Kept.{view_of}
+use Rattle.tc_context.proofs.Vocabulary.{refl, view_of}
 use Rattle.tc_context.proofs.Staging.{shows, sound_rooms}
 use Rattle.tc_context.proofs.package.Package.next_number.Goals as goal
 

@@ -1,5 +1,4 @@
-use Rattle.std.proofs.Common.{ap, ◌∙◌, is_some}
-use Rattle.tc_context.proofs.Vocabulary.{lock_in, PackageView, view_of}
+use Rattle.tc_context.proofs.Vocabulary.{ap, ◌∙◌, is_some, lock_in, PackageView, view_of}
 use Rattle.tc_context.proofs.Staging.{some_of, shows, place_small}
 use Rattle.tc_context.proofs.package.Package.number_of.Goals as goal
 
@@ -11,6 +10,5 @@ bounds-contents-lock c =
 pub returns-clause-number : goal.returns-clause-number
 returns-clause-number c =
     let s = shows c.deref-contents.ensures c.self.view_is c.self.invariant in
-    let p = view_of c.deref-contents.result.now in
-    let l = some_of (lock_in p.context.locks c.args.lock) (ap (λ (v : PackageView). is_some (lock_in v.context.locks c.args.lock)) s.is ∙ c.requires) in
+    let l = some_of (lock_in (view_of c.deref-contents.result.now).context.locks c.args.lock) (ap (λ (v : PackageView). is_some (lock_in v.context.locks c.args.lock)) s.is ∙ c.requires) in
     (s.kept.sound.stored c.args.lock l.0 l.1).turn

@@ -1,13 +1,7 @@
-use Rattle.std.proofs.Common.{◌≡◌, ◌∙◌, ◌-◌, ◌<◌, ◌++◌, ◌∷◌, ℕ, List, [], ap, sym, subst, arith, refl, Option, Some, None, is_some, length}
-use Rattle.std.specs.Prelude.{vec_len, vec_capacity}
-use Rattle.tc_context.proofs.Vocabulary.{AreEnded, Block, Context, EachLock, IsUnsealed, LockView, Kind, Shown, WantIsGranted, is_section, last_of, next_lock, PackageView, IsSoundPackage, IsReserved, kind_of, set_of, thread_in, Room, next_by_own, length-map, lock_in, option_map, some_map, DidRun, closed_all, closed_with, shut, with_journal}
-use Rattle.tc_context.specs.Block.{DidRunBlock}
+use Rattle.std.proofs.Common.{◌≡◌, ◌∙◌, ◌-◌, ◌++◌, ◌∷◌, ℕ, List, [], ap, sym, subst, arith, refl, Some, None, is_some, length}
+use Rattle.tc_context.proofs.Vocabulary.{AreEnded, Block, Context, EachLock, IsUnsealed, LockView, Kind, Shown, WantIsGranted, is_section, last_of, next_lock, PackageView, IsSoundPackage, IsReserved, kind_of, set_of, thread_in, Room, next_by_own, length-map, lock_in, option_map, some_map, DidRun, closed_with, shut, with_journal, DidRunBlock, Contents, Running, last_more}
 use Rattle.tc_context.specs.declared.context.Ran.{Ran}
-use Rattle.tc_context.specs.declared.package.Contents.{Contents}
-use Rattle.tc_turn.specs.declared.status.Status.TheVariants.{Running}
-use Rattle.tc_journal.proofs.Batching.{last_more}
-use Rattle.tc_context.proofs.LockList.{mapped_at}
-use Rattle.tc_context.proofs.Staging.{Shows, shows, Ready, bare_view, ready, ran_seen}
+use Rattle.tc_context.proofs.Staging.{Shows, shows, Ready, bare_view, ready, ran_seen, mapped_at}
 use Rattle.tc_context.proofs.Running.{MayRun, ready_from, can_go, kind_section, sound_ran, ran_ended, did_run}
 use Rattle.tc_context.proofs.Rooms.{EachGives, gives_behind, gives_open}
 use Rattle.tc_context.proofs.package.Package.run_block.Goals as goal

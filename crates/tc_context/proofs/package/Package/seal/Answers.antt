@@ -1,9 +1,5 @@
-use Rattle.std.specs.Prelude.{Vec, vec_len, vec_capacity}
-use Rattle.std.specs.Global.{Global}
-use Rattle.std.proofs.Common.{◌≡◌, ℕ, ◌-◌, ◌<◌, ◌∙◌, List, Option, length, refl, true, ap, sym, subst, arith, set, get_or, get_or-set_same, None, is_some}
-use Rattle.tc_context.proofs.Vocabulary.{has, Block, CanSeal, EachHeld, Changed, LockView, PackageView, Registers, IsSoundPackage, Allows, closed_all, locks_with, sealed_as, sealed_block, sealed_in, with_journal, with_seal, view_of}
-use Rattle.tc_context.specs.Kept.{DidSealLast}
-use Rattle.tc_context.specs.declared.package.Contents.{Contents}
+use Rattle.std.proofs.Common.{Vec, vec_len, vec_capacity, Global, ◌≡◌, ℕ, ◌-◌, ◌∙◌, List, Option, length, refl, true, ap, sym, subst, arith, get_or, get_or-set_same, None, is_some}
+use Rattle.tc_context.proofs.Vocabulary.{has, Block, CanSeal, EachHeld, Changed, LockView, PackageView, Registers, IsSoundPackage, Allows, closed_all, locks_with, sealed_as, sealed_block, sealed_in, with_journal, with_seal, view_of, DidSealLast, Contents}
 use Rattle.tc_context.proofs.Staging.{Shows, shows, changed_set}
 use Rattle.tc_context.proofs.Ended.{ended_sealed}
 use Rattle.tc_context.proofs.Running.{IsLast, pending_last, may_seal, seal_each, sealed_sound, seal_is}

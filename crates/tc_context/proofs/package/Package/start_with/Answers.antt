@@ -1,7 +1,6 @@
-use Rattle.std.proofs.Common.{refl, arith, ap, subst, sym, ◌∙◌, ◌≡◌, ◌==◌, None, Some, is_some}
+use Rattle.tc_context.proofs.Vocabulary.{refl, arith, ap, subst, sym, ◌∙◌, ◌≡◌, ◌==◌, None, Some, is_some, has, next_lock, thread_in, KeptPackage, Room, thread_at_start, with_own, next_by_own, own_of}
 use Rattle.std.proofs.lemmas.Nat.Bits.{bit_at-zero}
 use Rattle.std.specs.Arc.{arc_value}
-use Rattle.tc_context.proofs.Vocabulary.{has, next_lock, thread_in, KeptPackage, Room, thread_at_start, with_own, next_by_own, own_of}
 use Rattle.tc_context.proofs.Staging.{fresh_sound}
 use Rattle.tc_context.proofs.package.Package.start_with.Goals as goal
 

@@ -1,8 +1,6 @@
-use Rattle.std.proofs.Common.{◌≡◌, ◌==◌, ◌<◌, arith, refl, ap, subst, sym, ◌∙◌, Some, None, is_some, if◌then◌else◌}
-use Rattle.tc_context.proofs.Vocabulary.{has, IsAtRest, lock_in, PackageView, AreEnded, IsSoundPackage, locks_with, view_of, view_with, without_lock}
-use Rattle.tc_context.proofs.LockList.{with_locks}
+use Rattle.tc_context.proofs.Vocabulary.{◌≡◌, ◌==◌, ◌<◌, arith, refl, ap, subst, sym, ◌∙◌, Some, None, is_some, if◌then◌else◌, has, IsAtRest, lock_in, PackageView, AreEnded, IsSoundPackage, locks_with, view_of, view_with, without_lock}
 use Rattle.tc_context.proofs.Ended.{ended_placed}
-use Rattle.tc_context.proofs.Staging.{rests, shows, place_small, at_rest, set_without, taken_sound}
+use Rattle.tc_context.proofs.Staging.{rests, shows, place_small, at_rest, set_without, taken_sound, with_locks}
 use Rattle.tc_context.proofs.Rooms.{gives_placed}
 use Rattle.tc_context.proofs.package.Package.take_out.Goals as goal
 
@@ -36,28 +34,23 @@ invariant_of-self c =
 
 pub returns-clause-lock : goal.returns-clause-lock
 returns-clause-lock c =
-    let s = shows c.deref_mut-contents.ensures.value c.self.view_is c.self.invariant in
-    ap (λ (v : PackageView). lock_in v.context.locks c.args.lock) (sym (rests s c.requires.pending).is) ∙ sym c.take_out.ensures.taken ∙ c.in-Some.is
+    ap (λ (v : PackageView). lock_in v.context.locks c.args.lock) (sym (rests (shows c.deref_mut-contents.ensures.value c.self.view_is c.self.invariant) c.requires.pending).is) ∙ sym c.take_out.ensures.taken ∙ c.in-Some.is
 
 pub returns-clause-rest : goal.returns-clause-rest
 returns-clause-rest c =
-    let s = shows c.deref_mut-contents.ensures.value c.self.view_is c.self.invariant in
-    let r = rests s c.requires.pending in
+    let r = rests (shows c.deref_mut-contents.ensures.value c.self.view_is c.self.invariant) c.requires.pending in
     subst (λ (v : PackageView). IsAtRest v.image c.args.lock c.in-Some.state) r.is (at_rest (view_with None c.deref_mut-contents.result.now) c.args.lock c.in-Some.state r.sound refl
     (ap (λ (v : PackageView). has v.context.guest.held c.args.lock) r.is ∙ c.requires.released) (sym c.take_out.ensures.taken ∙ c.in-Some.is))
 
 pub returns-clause-is : goal.returns-clause-is
 returns-clause-is c =
-    let s = shows c.deref_mut-contents.ensures.value c.self.view_is c.self.invariant in
-    let r = rests s c.requires.pending in
+    let r = rests (shows c.deref_mut-contents.ensures.value c.self.view_is c.self.invariant) c.requires.pending in
     let p = view_with None c.deref_mut-contents.result.now in
     ap (λ o. record p { context = with_locks p.context (locks_with o p.context.guest.regs c.take_out.new.self); pending = o }) r.none
     ∙ (λ i. record p { context = with_locks p.context (c.take_out.ensures.is i) }) ∙ ap (without_lock c.args.lock) r.is
 
 pub returns-clause-locks : goal.returns-clause-locks
 returns-clause-locks c =
-    let s = shows c.deref_mut-contents.ensures.value c.self.view_is c.self.invariant in
-    let r = rests s c.requires.pending in
-    let regs = c.deref_mut-contents.result.now.context.guest.regs in
-    λ k. ap (λ o. lock_in (locks_with o regs c.take_out.new.self) k) r.none ∙ c.take_out.ensures.left k
+    let r = rests (shows c.deref_mut-contents.ensures.value c.self.view_is c.self.invariant) c.requires.pending in
+    λ k. ap (λ o. lock_in (locks_with o c.deref_mut-contents.result.now.context.guest.regs c.take_out.new.self) k) r.none ∙ c.take_out.ensures.left k
     ∙ ap (λ (v : PackageView). if k == c.args.lock then None else lock_in v.context.locks k) r.is

@@ -1,5 +1,4 @@
-use Rattle.std.proofs.Common.{◌≡◌, length, drop, sym, ap, subst, ◌∙◌, arith}
-use Rattle.tc_segment.proofs.Vocabulary.{Edges, Extends, drop_at}
+use Rattle.tc_segment.proofs.Vocabulary.{◌≡◌, length, drop, sym, ap, subst, ◌∙◌, arith, Edges, Extends, drop_at}
 use Rattle.tc_segment.proofs.Packing.{all_packed, some_packed, stands_last, extends_more}
 use Rattle.tc_segment.proofs.edges.Edges.note.Goals as goal
 

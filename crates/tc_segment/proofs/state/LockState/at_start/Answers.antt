@@ -1,6 +1,4 @@
-use Rattle.std.proofs.Common.{◌≡◌, ◌∙◌, length, sym, ap, subst, arith}
-use Rattle.tc_segment.proofs.Vocabulary.{AllFit, IsSoundLock, KeptLock, LockView, Shown, blocks_of, guard_at, last_finish, run_of, room_in, starting_bytes}
-use Rattle.std.specs.Prelude.{Some, None}
+use Rattle.tc_segment.proofs.Vocabulary.{◌≡◌, ◌∙◌, length, sym, ap, subst, arith, Some, None, AllFit, IsSoundLock, KeptLock, LockView, Shown, blocks_of, guard_at, last_finish, run_of, room_in, starting_bytes}
 use Rattle.tc_segment.proofs.Keeping.{fresh_view, sound_fresh}
 use Rattle.tc_segment.proofs.state.LockState.at_start.Goals as goal
 
@@ -10,17 +8,15 @@ invariant_of-result c =
     let guard = c.guard-start.ensures in
     let place = guard.value in
     let of : c.of.result.value ≡ image = c.of.ensures in
-    let start = ap (λ p. p.0) place ∙ ap (λ (x : Shown). (guard_at x c.args.lock).start) (sym of) in
-    let bytes = c.in_ok-starting_bytes.ensures ∙ ap (λ p. starting_bytes image p.0 p.1) place in
     let edges = c.new-2.result.words in
     let words = c.new-3.result.items in
     let records = c.new.ensures.items in
     let room : room_in c.new-3.result ≡ 0 = omega (arith, c.new-3.ensures.len, c.new-3.ensures.capacity) in
-    let view = fresh_view _ image c.args.lock c.args.limit c.args.strict _ words edges _ _ _ of bytes records (omega arith) room in
+    let view = fresh_view _ image c.args.lock c.args.limit c.args.strict _ words edges _ _ _ of (c.in_ok-starting_bytes.ensures ∙ ap (λ p. starting_bytes image p.0 p.1) place) records (omega arith) room in
     let none = ap length records in
     subst KeptLock (sym c.in_ok-new.ensures.ok) (record {
       sound = subst (λ (l : LockView). IsSoundLock l) (sym view) (sound_fresh image c.args.lock c.args.limit c.args.strict c.requires.known (omega arith) guard.kept c.requires.lawful);
-      start = start;
+      start = (ap (λ p. p.0) place ∙ ap (λ (x : Shown). (guard_at x c.args.lock).start) (sym of));
       records = subst (λ rs. AllFit edges words rs) (sym records) tt;
       sealed = omega arith;
       closed = omega (arith, none);

@@ -1,6 +1,5 @@
-use Rattle.std.proofs.Common.{◌≡◌, ℕ, true, List, [], ◌∷◌, ◌++◌, ◌+◌, ◌-◌, map, length, refl, sym, ap, subst, ◌∙◌, arith, length-append}
-use Rattle.tc_segment.proofs.Vocabulary.{AllFit, Block, Closes, ClosesWith, Contents, Extends, IsSoundLock, Journal, KeptLock, LockView, OpenFits, Opened, Opening, Record, entry_from, Registers, StandsAt, block_in, closed_with, count, entry_room_in, last_finish, mutex_at_start, open_in, replayed, run_of, shown, shown_journal, shown_open, view_of, with_journal, grounds, length-map, map-append, room_in, ends_thread}
-use Rattle.std.specs.Prelude.{Option, Some, None, option_map, is_some}
+use Rattle.tc_segment.proofs.Vocabulary.{◌≡◌, ℕ, true, List, [], ◌∷◌, ◌++◌, ◌+◌, ◌-◌, map, length, sym, ap, subst, ◌∙◌, arith, length-append, Option, Some, None, option_map, is_some, AllFit, Block, Closes, ClosesWith, Contents, Extends, IsSoundLock, Journal, KeptLock, LockView, OpenFits, Opened, Opening, Record, entry_from, Registers, StandsAt, block_in, closed_with, count, entry_room_in}
+use Rattle.tc_segment.proofs.Vocabulary.{last_finish, mutex_at_start, open_in, replayed, run_of, shown, shown_journal, shown_open, view_of, with_journal, grounds, length-map, map-append, room_in, ends_thread}
 use Rattle.tc_segment.proofs.Packing.{stands_is, place_of-stands}
 use Rattle.tc_segment.proofs.Keeping.{edges_more, shown_grown, fits_grown, fits_end, none_closed, closed_journal, sound_closed}
 use Rattle.tc_segment.proofs.Opening.{is_opened}
@@ -20,26 +19,24 @@ closed_view : (a : Contents) (more : List ℕ) (records : List Record) (block : 
     → to ≡ length a.words.items → records ≡ a.records.items ++ record_of block a.next place to ∷ [] → room ≡ entry_room_in a
     → shown_journal (grounds a.of.value a.number a.limit a.strict more a.words.items) (map (shown more a.words.items) records) a.sealed None room (room_in a.words) ≡ closed_with block finish (view_of a).journal
 closed_view a more records block finish place to room k was extends there len made same =
-    let old = map (shown a.edges.words a.words.items) a.records.items in
     let r = record_of block a.next place to in
     let is = opening_is a was in
     let new = ap (map (shown more a.words.items)) made ∙ map-append (shown more a.words.items) a.records.items (r ∷ [])
     ∙ ap (λ es. es ++ shown more a.words.items r ∷ []) (shown_grown (edges_more a.edges.words more a.words.items extends) a.records.items k.records) in
     ap (λ n. shown_journal (grounds a.of.value a.number a.limit a.strict more a.words.items) (map (shown more a.words.items) records) a.sealed None n (room_in a.words)) same
-    ∙ closed_journal a.of.value a.number a.limit a.strict old _ a.sealed a.edges.words more a.words.items (open_in a.opened a.next) (entry_room_in a) (room_in a.words) a.next block finish place to is extends
+    ∙ closed_journal a.of.value a.number a.limit a.strict (map (shown a.edges.words a.words.items) a.records.items) _ a.sealed a.edges.words more a.words.items (open_in a.opened a.next) (entry_room_in a) (room_in a.words) a.next block finish place to is extends
     (subst (λ x. OpenFits a.edges.words a.words.items x) is k.opened) (stands_is there) len (all_there a k was) new
 
 pub returns : goal.returns
 returns c =
     let shows = ap view_of c.deref_mut-contents.ensures.value ∙ c.self.view_is in
-    let kept = subst KeptLock (sym c.deref_mut-contents.ensures.value) c.self.invariant in
     let a = c.deref_mut-contents.result.now in
     let block = c.args.block.now in
     let finish = c.args.end.now in
     let place = c.note-finish.ensures in
     let was = ap (λ (l : LockView). is_some l.journal.opened) shows ∙ c.requires.opened in
     let one : count a.opened ≡ 1 = ap count (is_opened a was) in
-    let j = closed_view a _ _ block finish _ _ _ kept was place.more place.place (c.len-to.ensures ∙ a.words.ok.0) c.push_reserved.ensures.items (omega (arith, one, c.push_reserved.ensures.len)) in
+    let j = closed_view a _ _ block finish _ _ _ (subst KeptLock (sym c.deref_mut-contents.ensures.value) c.self.invariant) was place.more place.place (c.len-to.ensures ∙ a.words.ok.0) c.push_reserved.ensures.items (omega (arith, one, c.push_reserved.ensures.len)) in
     (λ i. record { number = a.number; bytes = a.bytes.items; broken = a.broken; sections = a.sections; journal = j i })
     ∙ ap (with_journal (closed_with block finish)) shows
 

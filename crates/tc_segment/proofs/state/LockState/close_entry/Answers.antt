@@ -1,5 +1,4 @@
-use Rattle.std.proofs.Common.{sym, subst}
-use Rattle.tc_segment.proofs.Vocabulary.{ClosesWith, Registers}
+use Rattle.tc_segment.proofs.Vocabulary.{sym, subst, ClosesWith, Registers}
 use Rattle.tc_segment.proofs.state.LockState.close_entry.Goals as goal
 
 pub close_packed-requires-clause-closes : goal.close_packed-requires-clause-closes

@@ -1,6 +1,4 @@
-use Rattle.std.proofs.Common.{◌≡◌, Bool, true, false, ◌||◌, refl, sym, ap, subst, ◌∙◌}
-use Rattle.tc_segment.proofs.Vocabulary.{Block, ClosesWith, LockView, Registers, ends_thread, with_end}
-use Rattle.std.specs.Prelude.{None, is_some}
+use Rattle.tc_segment.proofs.Vocabulary.{◌≡◌, Bool, true, false, ◌||◌, refl, sym, ap, subst, ◌∙◌, None, is_some, Block, ClosesWith, LockView, Registers, ends_thread, with_end}
 use Rattle.tc_segment.proofs.state.LockState.close_packed.Goals as goal
 
 -- what is broken is broken by the block's end

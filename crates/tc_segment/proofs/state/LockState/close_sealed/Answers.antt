@@ -1,7 +1,4 @@
-use Rattle.std.proofs.Common.{◌≡◌, true, refl, sym, ap, subst, ◌∙◌}
-use Rattle.tc_segment.proofs.Vocabulary.{LockView, Opened, Entry, closed_with, entry_from, with_journal}
-use Rattle.std.specs.Prelude.{Option, Some, None, is_some, option_map}
-use Rattle.tc_segment.specs.View.{MayFollow, MayPass}
+use Rattle.tc_segment.proofs.Vocabulary.{◌≡◌, true, refl, sym, ap, subst, ◌∙◌, Option, Some, None, is_some, option_map, LockView, Opened, Entry, entry_from, MayFollow, MayPass}
 use Rattle.tc_segment.proofs.state.LockState.close_sealed.Goals as goal
 
 some_entry : (f : Opened → Entry) (o : Option Opened) → is_some o ≡ true → is_some (option_map f o) ≡ true

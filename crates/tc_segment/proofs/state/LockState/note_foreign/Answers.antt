@@ -1,6 +1,4 @@
-use Rattle.std.proofs.Common.{◌≡◌, ℕ, [], List, ◌∷◌, ◌++◌, ◌-◌, ◌<◌, true, map, sym, ap, subst, ◌∙◌, arith}
-use Rattle.tc_segment.proofs.Vocabulary.{AllFit, Contents, IsSoundLock, KeptLock, LockView, OpenFits, blocks_of, entry_room_in, noted, open_in, run_of, shown, shown_journal, view_of, with_journal, grounds, room_in}
-use Rattle.std.specs.Prelude.{is_some}
+use Rattle.tc_segment.proofs.Vocabulary.{◌≡◌, ℕ, [], List, ◌∷◌, ◌++◌, ◌-◌, ◌<◌, true, map, sym, ap, subst, ◌∙◌, arith, is_some, AllFit, Contents, IsSoundLock, KeptLock, LockView, OpenFits, blocks_of, entry_room_in, noted, open_in, run_of, shown, shown_journal, view_of, with_journal, grounds, room_in}
 use Rattle.tc_segment.proofs.Keeping.{word_more, shown_grown, fits_grown, noted_journal, sound_noted, open_fits-more}
 use Rattle.tc_segment.proofs.Opening.{is_opened}
 use Rattle.tc_segment.proofs.state.LockState.note_foreign.Goals as goal
@@ -8,9 +6,8 @@ use Rattle.tc_segment.proofs.state.LockState.note_foreign.Goals as goal
 noted_view : (a : Contents) (words : List ℕ) (room value : ℕ) → KeptLock a → is_some (view_of a).journal.opened ≡ true → words ≡ a.words.items ++ value ∷ [] → room ≡ room_in a.words - 1
     → record { number = a.number; bytes = a.bytes.items; broken = a.broken; sections = a.sections; journal = shown_journal (grounds a.of.value a.number a.limit a.strict a.edges.words words) (map (shown a.edges.words words) a.records.items) a.sealed (open_in a.opened a.next) (entry_room_in a) room } ≡ with_journal (noted (value ∷ [])) (view_of a)
 noted_view a words room value k was e less =
-    let old = map (shown a.edges.words a.words.items) a.records.items in
     let j = (λ i. shown_journal (grounds a.of.value a.number a.limit a.strict a.edges.words (e i)) (map (shown a.edges.words (e i)) a.records.items) a.sealed (open_in a.opened a.next) (entry_room_in a) (less i))
-    ∙ noted_journal a.of.value a.number a.limit a.strict old _ a.sealed a.edges.words a.words.items (open_in a.opened a.next) (entry_room_in a) (room_in a.words) value
+    ∙ noted_journal a.of.value a.number a.limit a.strict (map (shown a.edges.words a.words.items) a.records.items) _ a.sealed a.edges.words a.words.items (open_in a.opened a.next) (entry_room_in a) (room_in a.words) value
     (shown_grown (word_more a.edges.words a.words.items (value ∷ [])) a.records.items k.records) k.opened was in
     λ i. record { number = a.number; bytes = a.bytes.items; broken = a.broken; sections = a.sections; journal = j i }
 
@@ -24,9 +21,8 @@ returns c =
 pub invariant_of-self : goal.invariant_of-self
 invariant_of-self c =
     let shows = ap view_of c.deref_mut-contents.ensures.value ∙ c.self.view_is in
-    let kept = subst KeptLock (sym c.deref_mut-contents.ensures.value) c.self.invariant in
     let a = c.deref_mut-contents.result.now in
-    let k = kept in
+    let k = (subst KeptLock (sym c.deref_mut-contents.ensures.value) c.self.invariant) in
     let items = c.push_reserved.ensures.items in
     let was = ap (λ (l : LockView). is_some l.journal.opened) shows ∙ c.requires.opened in
     let view = noted_view a c.push_reserved.new.self.items (room_in c.push_reserved.new.self) c.args.value k was items (omega (arith, c.push_reserved.ensures.len, c.push_reserved.ensures.capacity)) in

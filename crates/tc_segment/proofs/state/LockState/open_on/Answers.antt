@@ -1,6 +1,4 @@
-use Rattle.std.proofs.Common.{◌<◌, sym, ap, subst, ◌∙◌, arith}
-use Rattle.tc_segment.proofs.Vocabulary.{Contents, EndedAt, KeptLock, LockView, Registers, StandsBeside, entry_room_in, lock_of, opened_at, view_of, with_journal}
-use Rattle.std.specs.Prelude.{◌≡◌, None}
+use Rattle.tc_segment.proofs.Vocabulary.{◌<◌, sym, ap, subst, ◌∙◌, arith, ◌≡◌, None, Contents, EndedAt, KeptLock, LockView, Registers, StandsBeside, entry_room_in, lock_of, opened_at, view_of, with_journal}
 use Rattle.tc_segment.proofs.Packing.{extends_same}
 use Rattle.tc_segment.proofs.Opening.{not_opened, opened_view, opened_kept}
 use Rattle.tc_segment.proofs.state.LockState.open_on.Goals as goal
@@ -15,8 +13,7 @@ returns c =
     let kept = subst KeptLock (sym c.deref_mut-contents.ensures.value) c.self.invariant in
     let a = c.deref_mut-contents.result.now in
     let none = ap (λ (l : LockView). l.journal.opened) shows ∙ c.requires.opened in
-    let on = subst (λ (l : LockView). EndedAt c.args.start.now l.journal) (sym shows) c.requires.on in
-    opened_view a a.edges a.next.start c.args.fuel c.args.start.now kept none (beside a c.args.start.now kept none on)
+    opened_view a a.edges a.next.start c.args.fuel c.args.start.now kept none (beside a c.args.start.now kept none (subst (λ (l : LockView). EndedAt c.args.start.now l.journal) (sym shows) c.requires.on))
     ∙ ap (λ (l : LockView). with_journal (opened_at (lock_of l) c.args.start.now c.args.fuel) l) shows
 
 pub invariant_of-self : goal.invariant_of-self
@@ -25,7 +22,5 @@ invariant_of-self c =
     let kept = subst KeptLock (sym c.deref_mut-contents.ensures.value) c.self.invariant in
     let a = c.deref_mut-contents.result.now in
     let none = ap (λ (l : LockView). l.journal.opened) shows ∙ c.requires.opened in
-    let closed = ap (λ (l : LockView). l.journal.closed) shows ∙ c.requires.closed in
-    let on = subst (λ (l : LockView). EndedAt c.args.start.now l.journal) (sym shows) c.requires.on in
     let room : 0 < entry_room_in a = subst (λ (l : LockView). 0 < l.journal.entry_room) (sym shows) c.requires.room in
-    opened_kept a a.edges a.next.start c.args.fuel c.args.start.now kept none closed room (beside a c.args.start.now kept none on)
+    opened_kept a a.edges a.next.start c.args.fuel c.args.start.now kept none (ap (λ (l : LockView). l.journal.closed) shows ∙ c.requires.closed) room (beside a c.args.start.now kept none (subst (λ (l : LockView). EndedAt c.args.start.now l.journal) (sym shows) c.requires.on))

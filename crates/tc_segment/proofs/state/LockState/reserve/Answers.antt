@@ -1,8 +1,6 @@
-use Rattle.std.proofs.Common.{◌≡◌, ℕ, ◌+◌, ◌-◌, ◌*◌, ◌^◌, ◌<◌, ◌≤◌, Bool, true, false, List, map, take, length, refl, sym, ap, subst, ◌∙◌, arith}
-use Rattle.std.specs.Prelude.{Vec, vec_len, vec_capacity}
-use Rattle.std.specs.Global.{Global}
+use Rattle.tc_segment.proofs.Vocabulary.{◌≡◌, ℕ, ◌+◌, ◌-◌, ◌*◌, ◌^◌, ◌<◌, ◌≤◌, Bool, true, false, List, map, take, length, refl, sym, ap, subst, ◌∙◌, arith, Vec, vec_len, vec_capacity, Global, AllFit, Contents, Edges, EndedAt, IsSoundLock, KeptLock, view_of, OpenFits, Record, Registers, StandsAt, block_in, count, grounds, open_in, room_in, run_of, shown, shown_journal}
 use Rattle.tc_segment.specs.declared.packed.TheConstants.{MOST_WORDS}
-use Rattle.tc_segment.proofs.Vocabulary.{AllFit, Contents, Edges, EndedAt, IsSoundLock, KeptLock, OpenFits, Record, Registers, StandsAt, block_in, count, entry_room_in, grounds, open_in, room_in, run_of, shown, shown_journal, view_of}
+use Rattle.tc_segment.proofs.Keeping.{sound_with}
 use Rattle.tc_segment.proofs.state.LockState.reserve.Goals as goal
 
 three : {rs qs : List Record} {es fs ws vs : List ℕ} (P : List Record → List ℕ → List ℕ → Type 0) → qs ≡ rs → fs ≡ es → vs ≡ ws → P rs es ws → P qs fs vs
@@ -14,19 +12,8 @@ roomier : (a : Contents) (records : Vec Record Global) (edges : Edges) (words : 
 roomier a records edges words most k r e w entries lt room places =
     let er = most - vec_len records - count a.opened in
     record {
-      sound = three (λ rs es ws. IsSoundLock (record { number = a.number; bytes = a.bytes.items; broken = a.broken; sections = a.sections; journal = shown_journal (grounds a.of.value a.number a.limit a.strict es ws) (map (shown es ws) rs) a.sealed (open_in a.opened a.next) er (room_in words) })) r e w (record {
-        known = k.sound.known;
-        small = k.sound.small;
-        guard = k.sound.guard;
-        bytes = k.sound.bytes;
-        limit = k.sound.limit;
-        replays = k.sound.replays;
-        rest = k.sound.rest;
-        from = k.sound.from;
-        alone = k.sound.alone;
-        obeys = k.sound.obeys;
-        passes = k.sound.passes;
-      });
+      sound = three (λ rs es ws. IsSoundLock (record { number = a.number; bytes = a.bytes.items; broken = a.broken; sections = a.sections; journal = shown_journal (grounds a.of.value a.number a.limit a.strict es ws) (map (shown es ws) rs) a.sealed (open_in a.opened a.next) er (room_in words) })) r e w
+          (let v = view_of a in sound_with v v.journal.sealed v.journal.closed v.journal.opened er (room_in words) k.sound k.sound.replays k.sound.rest k.sound.from k.sound.alone k.sound.obeys k.sound.passes);
       start = k.start;
       records = three (λ rs es ws. AllFit es ws rs) r e w k.records;
       sealed = omega (arith, k.sealed, ap length r);
@@ -56,21 +43,18 @@ refused a records edges words k r more e room w =
 
 pub invariant_of-self : goal.invariant_of-self
 invariant_of-self c =
-    let k = subst KeptLock (sym c.deref_mut-contents.ensures.value) c.self.invariant in
     let a = c.deref_mut-contents.result.now in
-    refused a c.make_records.new.records a.edges a.words k c.make_records.ensures.items c.make_records.ensures.capacity refl (omega arith) refl
+    refused a c.make_records.new.records a.edges a.words (subst KeptLock (sym c.deref_mut-contents.ensures.value) c.self.invariant) c.make_records.ensures.items c.make_records.ensures.capacity refl (omega arith) refl
 
 pub invariant_of-self-in_err-reserve : goal.invariant_of-self-in_err-reserve
 invariant_of-self-in_err-reserve c =
-    let k = subst KeptLock (sym c.deref_mut-contents.ensures.value) c.self.invariant in
     let a = c.deref_mut-contents.result.now in
-    refused a c.make_records.new.records c.reserve.new.self a.words k c.make_records.ensures.items c.make_records.ensures.capacity c.reserve.ensures.words c.reserve.ensures.room refl
+    refused a c.make_records.new.records c.reserve.new.self a.words (subst KeptLock (sym c.deref_mut-contents.ensures.value) c.self.invariant) c.make_records.ensures.items c.make_records.ensures.capacity c.reserve.ensures.words c.reserve.ensures.room refl
 
 pub invariant_of-self-in_err-make_words : goal.invariant_of-self-in_err-make_words
 invariant_of-self-in_err-make_words c =
     let k = subst KeptLock (sym c.deref_mut-contents.ensures.value) c.self.invariant in
-    let a = c.deref_mut-contents.result.now in
-    refused a c.make_records.new.records c.reserve.new.self c.make_words.new.words k c.make_records.ensures.items c.make_records.ensures.capacity c.reserve.ensures.words c.reserve.ensures.room c.make_words.ensures.made.items
+    refused c.deref_mut-contents.result.now c.make_records.new.records c.reserve.new.self c.make_words.new.words k c.make_records.ensures.items c.make_records.ensures.capacity c.reserve.ensures.words c.reserve.ensures.room c.make_words.ensures.made.items
 
 pub invariant_of-self-2 : goal.invariant_of-self-2
 invariant_of-self-2 c =

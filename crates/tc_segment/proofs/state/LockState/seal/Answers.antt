@@ -1,6 +1,5 @@
-use Rattle.std.proofs.Common.{◌≡◌, ℕ, ◌+◌, ◌<◌, ◌≤◌, [], ◌∷◌, ◌++◌, true, map, set, get_or, length, inl, inr, sym, ap, subst, ◌∙◌, arith}
-use Rattle.tc_segment.proofs.Vocabulary.{Contents, Entry, Fits, IsSoundLock, IsStrict, KeptLock, LockView, Record, block_in, blocks_of, entry_room_in, last_finish, open_in, option_map, run_after, run_of, sealed_as, sealed_block, sealed_entry, sealed_list, shown, shown_journal, view_of, with_journal, grounds, length-map, length-set, map-append, map-set, slice_get-map, slice_get-get_or, slice_get_cases, room_in, may_follow, passes_on, run_from-more, sealed_record}
-use Rattle.std.specs.Prelude.{Some, is_some, slice_get}
+use Rattle.tc_segment.proofs.Vocabulary.{◌≡◌, ℕ, ◌+◌, ◌<◌, ◌≤◌, [], ◌∷◌, ◌++◌, true, map, set, get_or, length, inl, inr, sym, ap, subst, ◌∙◌, arith, Some, is_some, slice_get, Contents, Entry, Fits, IsSoundLock, IsStrict, KeptLock, LockView, Record, block_in, blocks_of, entry_room_in, last_finish, open_in, option_map, run_after, run_of, sealed_as, sealed_block, sealed_entry, sealed_list, shown}
+use Rattle.tc_segment.proofs.Vocabulary.{shown_journal, view_of, with_journal, grounds, length-map, length-set, map-append, map-set, slice_get-map, slice_get-get_or, slice_get_cases, room_in, may_follow, passes_on, run_from-more, sealed_record}
 use Rattle.tc_segment.proofs.Keeping.{fits_at, fits_set}
 use Rattle.tc_segment.proofs.Sealing.{sealed_journal, sealed_last, sound_sealed, run_short}
 use Rattle.tc_segment.proofs.state.LockState.seal.Goals as goal
@@ -32,18 +31,16 @@ some_closed a some = elim (slice_get_cases a.records.items a.sealed).1 [
 pub returns : goal.returns
 returns c =
     let shows = ap view_of c.deref_mut-contents.ensures.value ∙ c.self.view_is in
-    let kept = subst KeptLock (sym c.deref_mut-contents.ensures.value) c.self.invariant in
     let a = c.deref_mut-contents.result.now in
     let lt = some_closed a (ap (λ (l : LockView). is_some l.journal.closed) shows ∙ c.requires.closed) in
-    sealed_view a c.args.stamp c.args.worker c.index_mut-record.result.now c.stamp.new.self kept (closed_there a c.index_mut-record.result.now lt c.index_mut-record.ensures.value) c.stamp.ensures
+    sealed_view a c.args.stamp c.args.worker c.index_mut-record.result.now c.stamp.new.self (subst KeptLock (sym c.deref_mut-contents.ensures.value) c.self.invariant) (closed_there a c.index_mut-record.result.now lt c.index_mut-record.ensures.value) c.stamp.ensures
     ∙ ap (with_journal (sealed_as c.args.stamp c.args.worker)) shows
 
 pub invariant_of-self : goal.invariant_of-self
 invariant_of-self c =
     let shows = ap view_of c.deref_mut-contents.ensures.value ∙ c.self.view_is in
-    let kept = subst KeptLock (sym c.deref_mut-contents.ensures.value) c.self.invariant in
     let a = c.deref_mut-contents.result.now in
-    let k = kept in
+    let k = (subst KeptLock (sym c.deref_mut-contents.ensures.value) c.self.invariant) in
     let r = c.index_mut-record.result.now in
     let s = c.stamp.new.self in
     let stamp = c.args.stamp in

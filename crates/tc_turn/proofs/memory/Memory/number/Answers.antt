@@ -1,6 +1,4 @@
-use Rattle.std.proofs.Common.{◌≡◌, true, ap, sym, subst, ◌∙◌}
-use Rattle.std.specs.Prelude.{unwrap_or}
-use Rattle.tc_turn.proofs.Vocabulary.{get_or_default, Part, number_at, byte_from, own_of, no_part, part_at, part_has, AreApart}
+use Rattle.tc_turn.proofs.Vocabulary.{◌≡◌, true, ap, sym, subst, ◌∙◌, unwrap_or, get_or_default, Part, number_at, byte_from, own_of, no_part, part_at, part_has, AreApart}
 use Rattle.tc_turn.proofs.PartLaws.{number_there}
 use Rattle.tc_turn.proofs.memory.Memory.number.Goals as goal
 

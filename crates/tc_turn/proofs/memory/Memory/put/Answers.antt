@@ -1,5 +1,4 @@
-use Rattle.std.proofs.Common.{◌≡◌, List, map, length, ap, sym, subst, ◌∙◌, arith}
-use Rattle.tc_turn.proofs.Vocabulary.{with_items_is, Part, part_with, with_number, own_of, AreApart}
+use Rattle.tc_turn.proofs.Vocabulary.{◌≡◌, List, map, length, ap, sym, subst, ◌∙◌, arith, with_items_is, Part, part_with, with_number, own_of, AreApart}
 use Rattle.tc_turn.proofs.PartLaws.{apart_kept}
 use Rattle.tc_turn.proofs.MemoryLaws.{parts_put}
 use Rattle.tc_turn.proofs.memory.Memory.put.Goals as goal

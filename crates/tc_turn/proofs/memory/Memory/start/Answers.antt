@@ -1,5 +1,4 @@
-use Rattle.std.proofs.Common.{◌+◌, List, sym, subst, arith}
-use Rattle.tc_turn.proofs.Vocabulary.{Part}
+use Rattle.tc_turn.proofs.Vocabulary.{◌+◌, List, sym, subst, arith, Part}
 use Rattle.tc_turn.proofs.MemoryLaws.{AreMade, none_made, piece_more, own_made}
 use Rattle.tc_turn.proofs.memory.Memory.start.Goals as goal
 

@@ -1,5 +1,4 @@
-use Rattle.std.proofs.Common.{◌≡◌, ℕ, ◌-◌, ◌<◌, ◌≤◌, ◌^◌}
-use Rattle.tc_turn.proofs.Vocabulary.{own_region}
+use Rattle.tc_turn.proofs.Vocabulary.{◌≡◌, ℕ, ◌-◌, ◌<◌, ◌≤◌, ◌^◌, own_region}
 use Rattle.tc_elf.specs.declared.image.Region.TheVariants as region
 use Rattle.tc_turn.proofs.MemoryLaws.{AreMade}
 use Rattle.tc_turn.proofs.memory.Memory.start.Given as goal

@@ -1,5 +1,4 @@
-use Rattle.std.proofs.Common.{◌≡◌, Ok, sym, subst}
-use Rattle.tc_turn.proofs.Vocabulary.{instruction_at, Guest, HasExecuted}
+use Rattle.tc_turn.proofs.Vocabulary.{◌≡◌, Ok, sym, subst, instruction_at, Guest, HasExecuted}
 use Rattle.tc_turn.proofs.OwnTurns.{executed}
 use Rattle.tc_turn.proofs.thread.GuestThread.execute.Goals as goal
 
