@@ -179,7 +179,7 @@ class Rules(unittest.TestCase):
 
     def test_limits_are_those_of_the_program(self) -> None:
         constants = {}
-        for path in ("tc_isa/src/limits.rt", "tc_elf/src/limits.rt", "tc_build/src/generate.rt", "tc_main/src/order.rt", "tc_main/src/words.rt"):
+        for path in ("tc_isa/src/limits.rt", "tc_elf/src/limits.rt", "tc_build/src/generate.rt", "tc_main/src/policy.rt", "tc_main/src/words.rt"):
             for name, value in re.findall(r"pub const (\w+): \w+ = ([\d_]+);", (ROOT / "crates" / path).read_text()):
                 constants[name] = int(value.replace("_", ""))
         named = {name: value for name, value in constants.items() if name.startswith("MAX_")}

@@ -40,6 +40,15 @@ stops_first k i n q h m g a e p = record {
   became = (refl, p.aside);
 }
 
+-- the pass was told of a call on a line before
+pub first_after : (k : HallTerms) (i n : ℕ) (q : PackageView) (h : DeskParts) (m : PassView) (g : DeskParts) (r : Option PackageView) → Acts [] [] [] h.pass m → DidFirst k i n q (change (record h { pass = m }) g) r → DidFirst k i n q (change h g) r
+first_after k i n q h m g r a d = record {
+  calls = d.calls;
+  acts = acts_then [] d.calls (Pack q ∷ packed h.aside) (Pack q ∷ packed h.aside) (packed r ++ packed g.aside) h.pass m g.pass (acts_by [] (Pack q ∷ packed h.aside) h.pass m a) d.acts;
+  ready = d.ready;
+  became = subst (λ (w : ℕ). FirstAs (record (by_parts k q at_none (change h g)) { worker = w }) i n d.calls r) a.adds.told.worker d.became;
+}
+
 -- the seats count for nothing there
 first_at : {A B : Type 0} (k : HallTerms) (q : PackageView) (seats : Change A) (others : Change B) (parts : Change DeskParts) (i n : ℕ) (cs : List PassCall) (r : Option PackageView) → FirstAs (by_parts k q seats parts) i n cs r → FirstAs (by_parts k q others parts) i n cs r
 first_at k q seats others parts i n cs (Some r) h = h

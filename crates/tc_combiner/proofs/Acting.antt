@@ -1,10 +1,12 @@
 -- Calls of a pass, one after another, with each call that counts.
 use Rattle.std.proofs.Common.{◌≡◌, ◌≢◌, ◌==◌, ◌<◌, ◌≤◌, ◌+◌, ℕ, Bool, true, false, cond, arith, All, List, [], ◌∷◌, ◌++◌, length, length-append, filter, refl, sym, ap, ◌∙◌, subst, append_assoc, append-nil, Some, None, Option}
-use Rattle.tc_combiner.proofs.Vocabulary.{Acted, Acts, All-nil, AreAsked, AskedTimes, Asks, PassCall, Called, Came, Departure, HallView, DeskParts, HaveNoStop, IsAt, IsSamePass, Item, Knows, Leave, LineCall, MAX_HELD, MayAct, Miss, Moves, Next, Owned, Owns, PackageView, PassView, Put, Ready}
+use Rattle.tc_combiner.proofs.Vocabulary.{Acted, Acts, All-nil, AreAsked, AskedTimes, Asks, BeginsAs, PassCall, Called, Came, Departure, HallView, DeskParts, HaveNoStop, IsAt, IsSamePass, Item, Knows, Leave, LineCall, MAX_HELD, MayAct, Miss, Moves, Next, Owned, Owns, PackageView, PassView, Put, Ready}
 use Rattle.tc_combiner.proofs.Vocabulary.{Refused, SawStopped, SeatView, Stop, Stopped, TakesDown, HallTerms, Tried, TriedAs, Try_stopped, Turn, WaitedAs, Waits, after_miss, after_stopped, change, counts, erase, looks_in, nat_tests, outs, ready_in, saw, saw_if, threads, unanswered, with_line}
 use Rattle.std.proofs.lemmas.List.Elements.{filter-append, All-append}
 use Rattle.tc_combiner.proofs.Looking.{looks_called, looks_then, looks_tried, looks_twice, unanswered_then}
 use Rattle.tc_combiner.proofs.Owning.{moves_none, rotate, unrotate}
+use Rattle.tc_order.specs.Order.{AreLines, Told}
+use Rattle.tc_hall.specs.declared.board.PassCall.TheVariants.{Line}
 
 pub no_stops : (cs ds : List PassCall) → HaveNoStop cs → HaveNoStop ds → HaveNoStop (cs ++ ds)
 no_stops [] ds p q = q
@@ -88,11 +90,12 @@ acts_looked b p q own s = acts_told (Stopped s.word ∷ []) (saw_if b) [] [] p q
 -- ---- steps that were refused, and calls
 
 -- a step that added neither
-pub tried_none : (v w x : Knows) → w ≡ x → x.missed ≡ v.missed → x.calls ≡ v.calls → Tried 0 0 v w
-tried_none v w x e m c = record { misses = []; missed = ap (λ (z : Knows). z.missed) e ∙ (m ∙ sym (append-nil v.missed)); each = refl; calls = []; added = ap (λ (z : Knows). z.calls) e ∙ (c ∙ sym (append-nil v.calls)); all = refl }
+-- one call was added, and no check of STOP
+pub tried_called : (c : PassCall) (v w : Knows) → looks_in (c ∷ []) ≡ 0 → w.missed ≡ v.missed → Called (c ∷ []) v w → Tried 0 0 v w
+tried_called c v w quiet same told = record { misses = []; missed = same ∙ sym (append-nil v.missed); each = refl; calls = c ∷ []; added = told.calls; all = quiet }
 
 pub tried_still : (v : Knows) → Tried 0 0 v v
-tried_still v = tried_none v v v refl refl refl
+tried_still v = record { misses = []; missed = sym (append-nil v.missed); each = refl; calls = []; added = sym (append-nil v.calls); all = refl }
 
 pub tried_looked : (v w : Knows) (word : ℕ) → w ≡ after_stopped v word → Tried 0 1 v w
 tried_looked v w word e = record { misses = []; missed = ap (λ (x : Knows). x.missed) e ∙ sym (append-nil v.missed); each = refl; calls = Stopped word ∷ []; added = ap (λ (x : Knows). x.calls) e; all = refl }
@@ -181,3 +184,38 @@ acted_by k ds xs ys h g a r none = record { acts = a; readied = takes_none (thre
 
 pub acted_then : (k : HallTerms) (ds es : List PassCall) (xs ys zs : List Item) (h m g : DeskParts) → Acted k ds xs ys (change h m) → Acted k es ys zs (change m g) → Acted k (ds ++ es) xs zs (change h g)
 acted_then k ds es xs ys zs h m g a b = record { acts = acts_then ds es xs ys zs h.pass m.pass g.pass a.acts b.acts; readied = takes_then (threads k) h.ready.items m.ready.items g.ready.items ds es a.readied b.readied }
+
+-- ---- calls on a line
+
+quiet_lines : (cs : List PassCall) → AreLines cs → (filter counts cs ≡ []) × HaveNoStop cs × (looks_in cs ≡ 0)
+quiet_lines [] l = (refl, tt, refl)
+quiet_lines (Line i c ∷ cs) l = quiet_lines cs l.1
+quiet_lines (c ∷ cs) l = let e = l.0 in let n : ⊥ = cc in absurd n
+
+module _ (noted : List PassCall → Type 0) (p q : PassView) (t : Told noted p q) where
+  -- a pass that an order of waiters told of its calls did nothing that counts
+  pub acts_lined : Acts [] [] [] p q
+  acts_lined = let quiet = quiet_lines t.calls t.lines in
+      acts_told t.calls [] [] [] p q quiet.0 quiet.1 t.own
+      (subst (λ (w : Knows). Called t.calls p.knows w) (sym t.now) (record { image = refl; worker = refl; sealed = refl; joined = refl; calls = refl }))
+      (moves_none p.knows q.knows (ap outs t.now)) (ap (λ (w : Knows). w.missed) t.now)
+
+  -- and no try of it failed
+  pub tried_lined : Tried 0 0 p.knows q.knows
+  tried_lined = record { misses = []; missed = ap (λ (w : Knows). w.missed) t.now ∙ sym (append-nil p.knows.missed); each = refl; calls = t.calls; added = ap (λ (w : Knows). w.calls) t.now; all = (quiet_lines t.calls t.lines).2 }
+
+-- two such calls
+pub asked_both : {f g : List PassCall → Type 0} {p q r : PassView} → Told f p q → Told g q r → Acts [] [] [] p r × Tried 0 0 p.knows r.knows
+asked_both {f} {g} {p} {q} {r} a b = (
+  acts_then [] [] [] [] [] p q r (acts_lined f p q a) (acts_lined g q r b),
+  tried_then 0 0 0 0 p.knows q.knows r.knows (tried_lined f p q a) (tried_lined g q r b),
+)
+
+-- what follows a call on a line
+pub begun_as : (noted : List PassCall → Type 0) (p q r : PassView) (cs : List PassCall) → Told noted p q → r.knows.calls ≡ q.knows.calls ++ cs → BeginsAs noted p r
+begun_as noted p q r cs t after = record {
+  begun = t.calls;
+  rest = cs;
+  calls = after ∙ (ap (λ (w : Knows). w.calls ++ cs) t.now ∙ append_assoc p.knows.calls t.calls cs);
+  is = t.notes;
+}

@@ -1,6 +1,7 @@
 -- What a desk's calls answer, with each call of its pass.
 use Rattle.std.specs.Prelude.{◌⊎◌, ◌≡◌, ◌<◌, ℕ, ◌+◌, min, if◌then◌else◌, List, [], ◌∷◌, ◌++◌, Option, Some, None}
-use Rattle.tc_combiner.specs.Vocabulary.{Behind, PassCall, Did_adopt, Did_park, Did_stop, Done, Enter, First, GoesOn, HallView, DeskParts, HasBlock, IsNumber, IsOut, IsWaiting, Item, Link, LockView, MAX_NUMBER, Pack, PackageView, Parked, PassView, Place, Ready, SeatView, Settled, Shipped, Slept, Stopped, HallTerms, Turn, Waiting, is_running, last_of, locks, outs, put_call, threads, with_line, with_turns}
+use Rattle.tc_combiner.specs.Vocabulary.{Behind, PassCall, Did_adopt, Did_park, Did_stop, Done, Enter, First, GoesOn, HallView, DeskParts, HasBlock, IsNumber, IsOut, IsWaiting, Item, Link, LockView, MAX_NUMBER, Pack, PackageView, Parked, PassView, Place, Ready, SeatView, Slept, Stopped, HallTerms, Turn, Waiting, is_running, last_of, locks, outs, put_call, threads, with_line, with_turns}
+use Rattle.tc_combiner.specs.Vocabulary.{Entered, LineCall, Settled, Shipped}
 use Rattle.tc_combiner.specs.Packages.{DidTake, HoldsNone, IsAside, IsGood, IsPlain, MayGoOn, Runs, Wants}
 use Rattle.tc_combiner.specs.Walks.{TakesDown, packed, Acted, Acts}
 use Rattle.tc_combiner.specs.Change.{Change}
@@ -109,6 +110,20 @@ AcquiredAs x i cs r = ⊥
 -- what was done for a package that wants lock i
 abbrev pub Acquires : HallTerms → ℕ → PackageView → Change SeatView → Change DeskParts → Settled → Type 0
 Acquires k i q seat parts r = Does k q parts r (λ cs. AcquiredAs (by_parts k q seat parts) i cs r)
+
+-- the first that the pass was told is this
+pub record BeginsAs (first : List PassCall → Type 0) (p q : PassView) : Type 0 where
+  pub begun : List PassCall
+  pub rest : List PassCall
+  pub calls : q.knows.calls ≡ p.knows.calls ++ (begun ++ rest)
+  pub is : first begun
+
+-- an order that fits told the pass first that the turn entered
+pub record EntersFirst {X : Type 0} (fits : X → Type 0) (notes : X → LineCall → List PassCall → Type 0) (u : Turn) (p q : PassView) : Type 0 where
+  pub line : X
+  pub fitting : fits line
+  pub answer : Entered
+  pub begins : BeginsAs (notes line (Enter u answer)) p q
 
 -- ---- a package that sleeps
 

@@ -126,6 +126,10 @@ abbrev pub DidSleep : PackageView → DeskView → DeskView → Settled → Type
 DidSleep q d e Did_park = DidPark q d e
 DidSleep q d e r = ⊥
 
+-- this holds of the lock at whose LOCK the block ended, if it did
+abbrev pub IfWants : End → (ℕ → Type 0) → Type 0
+IfWants x P = (i : ℕ) → x ≡ Wants i → P i
+
 -- of one whose last block is b
 abbrev pub SettledAs : End → PackageView → Block → DeskView → DeskView → Settled → Type 0
 SettledAs (Wants i) q b d e r = DidAcquire i q d e r

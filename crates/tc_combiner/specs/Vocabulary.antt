@@ -16,7 +16,7 @@ pub use Rattle.tc_context.specs.Locks.{IsPlaced}
 pub use Rattle.tc_context.specs.Ran.{DidRun}
 pub use Rattle.tc_context.specs.View.{AllowsPending, HasBlock, IsNumber, IsWaiting, PackageView, bare, fits_of, number_in, want_of, with_grant, with_turns, without_lock}
 pub use Rattle.tc_context.specs.declared.package.TheConstants.{MAX_NUMBER}
-pub use Rattle.tc_queue.specs.Lines.{Behind, Enter, First, IsSeatOf, Leave, LineCall, Link, Next, SeatView, with_line}
+pub use Rattle.tc_queue.specs.Lines.{Behind, Enter, Entered, First, IsSeatOf, Leave, LineCall, Link, Next, SeatView, with_line}
 pub use Rattle.tc_queue.specs.View.{QueueView}
 pub use Rattle.tc_queue.specs.Words.{IsTurn}
 pub use Rattle.tc_queue.specs.declared.turn.Departure.TheVariants.{Left}
@@ -25,9 +25,9 @@ pub use Rattle.tc_hall.specs.Outs.{Called, IsOut, Item, Loose, Outs, Pack, erase
 pub use Rattle.tc_hall.specs.PassView.{HallView, PassView}
 pub use Rattle.tc_hall.specs.Places.{IsInRange, code_of}
 pub use Rattle.tc_hall.specs.Rule.{IsInOrder, IsOwn, is_pinned, last_by, locked_in, locks, threads}
-pub use Rattle.tc_hall.specs.Steps.{HandsPending, IsSamePass, put_call}
+pub use Rattle.tc_hall.specs.Steps.{HandsPending, IsSamePass, claim_call, put_call}
 pub use Rattle.tc_hall.specs.declared.board.PassCall.{PassCall}
-pub use Rattle.tc_hall.specs.declared.board.PassCall.TheVariants.{Free, Put, Stop, Stopped}
+pub use Rattle.tc_hall.specs.declared.board.PassCall.TheVariants.{Claim, Commit, Free, Line, Put, Stop, Stopped, Take}
 pub use Rattle.tc_hall.specs.declared.board.Knows.{Knows}
 pub use Rattle.tc_hall.specs.declared.board.Miss.{Miss}
 pub use Rattle.tc_hall.specs.declared.board.HallTerms.{HallTerms}

@@ -1,6 +1,7 @@
 -- What some calls of a pass and of a seat did, one by one, and how what is out changed; and what a desk may do.
 use Rattle.std.specs.Prelude.{◌≡◌, ◌+◌, ℕ, List, [], ◌∷◌, ◌++◌, Option, Some, None, ◌==◌, ◌<◌, ◌≤◌, Bool, true, false, All, length, filter}
-use Rattle.tc_combiner.specs.Vocabulary.{Asked, Attempt, PassCall, Called, Came, Found, HallView, DeskParts, IsAtRest, IsInOrder, IsInRange, IsOut, IsSamePass, IsTurn, Item, Knows, Leave, Left, LineCall, LockView, Loose, MAX_HELD, Miss, Next, Find_stopped, Next_asked, Next_is, Nobody, Nobody_asked, Outs, Pack, PackageView, PassView, Place, Put, Ready, Refused, EndsSection, SeatView, Stop, Stopped, HallTerms, Try_stopped, Turn, Unlinked, code_of, erase, fits_of, is_pinned, locks, outs, threads}
+use Rattle.tc_combiner.specs.Vocabulary.{Asked, Attempt, Called, Came, Found, HallView, DeskParts, IsAtRest, IsInOrder, IsInRange, IsOut, IsSamePass, IsTurn, Item, Knows, Leave, Left, Line, LineCall, LockView, Loose, MAX_HELD, Miss, Next, Find_stopped, Next_asked, Next_is, Nobody, Nobody_asked, Outs, Pack, PackageView, PassView, Place, Put, Ready, Refused, EndsSection, SeatView, Stop, Stopped, HallTerms, Try_stopped, Turn, Unlinked, code_of, erase, fits_of, is_pinned, locks, outs, threads}
+use Rattle.tc_combiner.specs.Vocabulary.{Claim, Commit, PassCall, Take}
 use Rattle.tc_combiner.specs.Change.{Change, change}
 use Rattle.tc_combiner.specs.Packages.{IsAside}
 
@@ -80,9 +81,13 @@ FoundAs u s t Find_stopped = Unit {0}
 abbrev pub Owned : Knows → List Item → Type 0
 Owned v xs = (b : Outs) × Owns b (outs v) xs
 
--- any call except a check of STOP that found no stop
+-- any call but claims, takes, commits and those on lines, except a check of STOP that found no stop
 abbrev pub counts : PassCall → Bool
 counts (Stopped x) = x == 1
+counts (Line i c) = false
+counts (Claim t place) = false
+counts (Take i) = false
+counts (Commit t stamp) = false
 counts c = true
 
 -- how many of these calls are checks of STOP

@@ -7,7 +7,9 @@ ghost use Rattle.tc_hall.specs.Steps.{put_call};
 ghost use Rattle.tc_hall.specs.Outs.{Pack};
 ghost use Rattle.tc_combiner.specs.Packages.{IsPlain};
 ghost use Rattle.tc_combiner.specs.Walks.{packed, Acts, IsAtHall};
-ghost use Rattle.tc_combiner.specs.Answers.{Acquires, DidFirst, MayAsk, MayPutBack, PutAllBack, place_back, MayGetFirst};
+ghost use Rattle.tc_combiner.specs.Answers.{Acquires, BeginsAs, DidFirst, MayAsk, MayPutBack};
+ghost use Rattle.tc_combiner.specs.Answers.{PutAllBack, place_back, MayGetFirst, next_turn};
+ghost use Rattle.tc_queue.specs.Lines.{Enter, Entered};
 ghost use Rattle.tc_combiner.specs.Change.{change};
 ghost use Rattle.tc_combiner.specs.View.{IsSeatFor};
 
@@ -21,7 +23,8 @@ use tc_hall::hall::Hall;
 use tc_hall::pass::Pass;
 use tc_hall::place::Place;
 use tc_journal::block::Kind;
-use tc_queue::{Arrival, Turn, Waiters};
+use tc_order::Order;
+use tc_queue::{Arrival, Turn};
 use tc_turn::status::Status;
 
 /// Whether the package's thread has not ended.
@@ -87,7 +90,7 @@ fn acquire_first<R: Wait>(
 /// What `acquire` does, with what it needs of the desk.
 /// Always inlined, as `acquire_at` is.
 #[inline(always)]
-pub(crate) fn acquire_with<R: Wait, Q: Waiters>(
+pub(crate) fn acquire_with<R: Wait, Q: Order>(
     rt: &R,
     hall: &Hall,
     parts: &mut DeskParts,
@@ -96,25 +99,29 @@ pub(crate) fn acquire_with<R: Wait, Q: Waiters>(
     mut package: Package,
     lock: u32,
 ) -> Settled
+    requires line { Q.fits queue.now hall.now }
     requires parts { IsAtHall hall.now (Pack «package» ∷ packed parts.old.aside) parts.old }
     requires may { MayAsk hall.now.terms lock «package» }
     requires seat { IsSeatFor (threads hall.now.terms) (Q.queue queue.now) (Q.seen seat.old) }
-    ensures { Acquires hall.now.terms lock «package» (change (Q.seen seat.old) (Q.seen seat.new))
-        (change parts.old parts.new) result }
+    ensures acquired { Acquires hall.now.terms lock «package»
+        (change (Q.seen seat.old) (Q.seen seat.new)) (change parts.old parts.new) result }
+    // So it enters before it takes the lock: both are told to the pass.
+    ensures enters { (a : Entered) × BeginsAs (Q.notes queue.now (Enter (next_turn «package») a))
+        parts.old.pass parts.new.pass }
 {
     package.keeps();
     let own = Turn {
         number: package.next_number(),
         thread: package.thread(),
     };
-    match queue.enter(seat, own) {
+    match queue.enter(hall, &mut parts.pass, seat, own) {
         Arrival::First => match acquire_first(rt, hall, parts, package, lock, own.number) {
             Some(package) => Settled::GoesOn(package),
             None => Settled::Stopped,
         },
         Arrival::Behind(place) => {
-            calls::put(hall, &mut parts.pass, package, Place::Waiting(lock));
-            queue.link(seat, place, own);
+            calls::ship(hall, &mut parts.pass, package, lock);
+            queue.link(hall, &mut parts.pass, seat, place, own);
             Settled::Shipped
         }
     }

@@ -1,9 +1,10 @@
 //! The calls of the hall, as a desk makes them: which calls each adds to the list of the pass, and
 //! what the pass has out afterwards.
 
-ghost use Rattle.std.specs.Prelude.{◌≡◌, [], ◌∷◌};
+ghost use Rattle.std.specs.Prelude.{◌++◌, ◌≡◌, [], ◌∷◌};
 ghost use Rattle.tc_hall.specs.Steps.{put_call};
 ghost use Rattle.tc_hall.specs.declared.board.PassCall.TheVariants.{Free};
+ghost use Rattle.tc_hall.specs.declared.place.Place.TheVariants.{Waiting};
 ghost use Rattle.tc_hall.specs.Outs.{Pack, Loose};
 ghost use Rattle.tc_combiner.specs.Walks.{Acts, MayBringHome, MayGive, Tried, saw_if};
 
@@ -18,6 +19,17 @@ pub(crate) fn put(hall: &Hall, pass: &mut Pass, package: Package, place: Place)
     ensures { Acts (put_call «package» place ∷ []) (Pack «package» ∷ []) [] pass.old pass.new }
 {
     hall.put(pass, package, place);
+}
+
+/// Puts the package as one that waits for the lock: that is the one call of the pass.
+pub(crate) fn ship(hall: &Hall, pass: &mut Pass, package: Package, lock: u32)
+    requires { MayGive hall.now pass.old (Waiting lock) «package» }
+    ensures acts { Acts (put_call «package» (Waiting lock) ∷ []) (Pack «package» ∷ []) []
+        pass.old pass.new }
+    ensures told { pass.new.knows.calls
+        ≡ pass.old.knows.calls ++ put_call «package» (Waiting lock) ∷ [] }
+{
+    hall.put(pass, package, Place::Waiting(lock));
 }
 
 pub(crate) fn free(hall: &Hall, pass: &mut Pass, lock: LockState)

@@ -1,6 +1,6 @@
 //! Desks (per-worker combiners) and benches (what they share).
 
-ghost use Rattle.std.specs.Prelude.{◌≡◌, ◌<◌, ◌≤◌, ◌+◌, ◌-◌, ◌^◌, [], None, Some, min, length, map};
+ghost use Rattle.std.specs.Prelude.{ℕ, ◌≡◌, ◌<◌, ◌≤◌, ◌+◌, ◌-◌, ◌^◌, [], None, Some, min, length, map};
 ghost use Rattle.std.specs.Borrow.{Lends, sem};
 ghost use Rattle.tc_isa.specs.declared.limits.TheConstants.{MAX_HELD};
 ghost use Rattle.tc_context.specs.View.{with_seal};
@@ -8,9 +8,11 @@ ghost use Rattle.tc_hall.specs.contracts.pass.Pass.{the_row as pass_row};
 ghost use Rattle.tc_park.specs.contracts.sleepers.Sleepers.{the_row as sleepers_row};
 ghost use Rattle.tc_combiner.specs.contracts.desk.Desk.{the_row};
 ghost use Rattle.tc_hall.specs.Steps.{DidSeal, IsSamePass};
+ghost use Rattle.tc_combiner.specs.Answers.{EntersFirst, next_turn};
 ghost use Rattle.tc_combiner.specs.Packages.{Wants};
 ghost use Rattle.tc_combiner.specs.View.{FitsBench, desk_of};
-ghost use Rattle.tc_combiner.specs.Settling.{HasAcquired, HasSettled, IsInHand, Keeps, MayAcquire, MayCommit, MaySettle, MovesSealed};
+ghost use Rattle.tc_combiner.specs.Settling.{HasAcquired, HasSettled, IfWants, IsInHand, Keeps};
+ghost use Rattle.tc_combiner.specs.Settling.{MayAcquire, MayCommit, MaySettle, MovesSealed};
 
 use crate::parts::{DeskParts, Shared, Sleeping};
 use crate::ready::ReadyList;
@@ -23,12 +25,12 @@ use tc_elf::image::Image;
 use tc_hall::hall::Hall;
 use tc_hall::pass::Pass;
 use tc_journal::block::End;
+use tc_order::Order;
 use tc_park::Sleepers;
-use tc_queue::Waiters;
 
 /// What the workers share: the image, the hall, and a queue for each lock.
 #[derive(Drop)]
-pub struct Bench<'a, Q: Waiters> {
+pub struct Bench<'a, Q: Order> {
     /// The guest that runs.
     pub image: &'a Image,
     /// The table through which packages and lock states change hands.
@@ -37,24 +39,28 @@ pub struct Bench<'a, Q: Waiters> {
     pub queues: &'a [Q],
 }
 
-impl<'a, Q: Waiters> Model for Bench<'a, Q> {
-    ghost use Rattle.std.specs.Prelude.{map};
+impl<'a, Q: Order> Model for Bench<'a, Q> {
+    ghost use Rattle.std.specs.Prelude.{All, map};
+    ghost use Rattle.tc_order.specs.Order.{AreInOrder};
     ghost use Rattle.tc_combiner.specs.View.{BenchView};
 
     ghost Value = { BenchView };
 
     ghost view = { λ b. record { image = b.image.now; hall = b.hall.now; queues = map Q.queue b.queues.now } };
+
+    ghost invariant = { λ b. All (λ q. Q.fits q b.hall.now) b.queues.now
+        × AreInOrder Q.of b.queues.now };
 }
 
 /// The combiner of a worker.
 #[derive(Drop)]
-pub struct Desk<Q: Waiters> {
+pub struct Desk<Q: Order> {
     parts: DeskParts,
     seats: Vec<Q::Seat>,
     sleeping: Sleeping,
 }
 
-impl<Q: Waiters> Model for Desk<Q> {
+impl<Q: Order> Model for Desk<Q> {
     ghost use Rattle.std.specs.Prelude.{map};
     ghost use Rattle.tc_combiner.specs.View.{DeskView};
 
@@ -63,7 +69,7 @@ impl<Q: Waiters> Model for Desk<Q> {
     ghost view = { λ d. record { pass = d.parts.pass; seats = map Q.seen d.seats.items; sleepers = d.sleeping.sleepers; now = d.sleeping.clock; aside = d.parts.aside; handed = d.parts.ready.items } };
 }
 
-impl<Q: Waiters> Desk<Q> {
+impl<Q: Order> Desk<Q> {
     /// The desk of the pass's worker, with one seat of each queue, in order of lock. Its clock
     /// starts at 0, nothing is set aside, and it has put no thread as ready.
     pub fn new(pass: Pass, seats: Vec<Q::Seat>, sleepers: Sleepers) -> Desk<Q>
@@ -82,7 +88,7 @@ impl<Q: Waiters> Desk<Q> {
 
     /// The pass.
     pub fn pass(&mut self) -> &mut Pass
-        ensures* writes_back { sem 𝓛 (Lends (the_row Q.row Q.Seat.row Q.Place.row Q.Waiters) pass_row self.entry result (λ pass. record self.old { pass = pass })) }
+        ensures* writes_back { sem 𝓛 (Lends (the_row Q.row Q.Seat.row Q.Place.row Q.Order) pass_row self.entry result (λ pass. record self.old { pass = pass })) }
         ensures value { result.now ≡ self.old.pass }
     {
         &mut self.parts.pass
@@ -90,7 +96,7 @@ impl<Q: Waiters> Desk<Q> {
 
     /// The sleepers.
     pub fn sleepers(&mut self) -> &mut Sleepers
-        ensures* writes_back { sem 𝓛 (Lends (the_row Q.row Q.Seat.row Q.Place.row Q.Waiters) sleepers_row self.entry result (λ sleepers. record self.old { sleepers = sleepers })) }
+        ensures* writes_back { sem 𝓛 (Lends (the_row Q.row Q.Seat.row Q.Place.row Q.Order) sleepers_row self.entry result (λ sleepers. record self.old { sleepers = sleepers })) }
         ensures value { result.now ≡ self.old.sleepers }
     {
         &mut self.sleeping.sleepers
@@ -132,13 +138,17 @@ impl<Q: Waiters> Desk<Q> {
 
     /// Enters the queue of the lock that the package wants. If nobody is there, it takes the lock,
     /// once that is free, and the package goes on. Otherwise the package waits with all its locks
-    /// and is linked. The call may wait for the lock, until the run is stopped.
+    /// and is linked. The call may wait for the lock, until the run is stopped. Before all else it
+    /// enters: that is the first that a queue in the hall notes in the pass.
     pub fn acquire<R: Wait>(&mut self, rt: &R, bench: &Bench<'_, Q>, package: Package) -> Settled
         requires fits { FitsBench bench.now self.old }
         requires hand { IsInHand self.old «package» }
         requires may { MayAcquire bench.now.image «package» }
         ensures keeps { Keeps bench.now «package» self.old self.new result }
         ensures acquired { HasAcquired «package» self.old self.new result }
+        ensures enters { (i : ℕ) × Wants «package» i × EntersFirst
+            (λ q. Q.fits q bench.now.hall × Q.of q i) Q.notes (next_turn «package»)
+            self.old.pass self.new.pass }
     {
         package.keeps();
         match package.want(bench.image) {
@@ -161,6 +171,8 @@ impl<Q: Waiters> Desk<Q> {
         requires wants { Wants «package» lock }
         ensures keeps { Keeps bench.now «package» self.old self.new result }
         ensures acquired { HasAcquired «package» self.old self.new result }
+        ensures enters { EntersFirst (λ q. Q.fits q bench.now.hall × Q.of q lock) Q.notes
+            (next_turn «package») self.old.pass self.new.pass }
     {
         self.parts.ready.clear();
         package.keeps();
@@ -180,6 +192,7 @@ impl<Q: Waiters> Desk<Q> {
 
     /// Does with a package what the end of its last block requires. It may wait: for a lock that is
     /// not free yet, or for a waiter that is not linked or not put yet, until the run is stopped.
+    /// At a LOCK it enters before all else, as `acquire` does.
     pub fn settle<R: Wait>(
         &mut self,
         rt: &R,
@@ -192,6 +205,8 @@ impl<Q: Waiters> Desk<Q> {
         requires may { MaySettle bench.now.image self.old.pass.knows.worker end «package» }
         ensures keeps { Keeps bench.now «package» self.old self.new result }
         ensures settled { HasSettled end «package» self.old self.new result }
+        ensures enters { IfWants end (λ i. EntersFirst (λ q. Q.fits q bench.now.hall × Q.of q i)
+            Q.notes (next_turn «package») self.old.pass self.new.pass) }
     {
         let shared = Shared {
             hall: bench.hall,

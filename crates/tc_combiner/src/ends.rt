@@ -1,6 +1,6 @@
 //! What `settle` does when a thread sleeps, and when it has ended.
 
-ghost use Rattle.std.specs.Prelude.{◌≡◌, ◌<◌, ◌≤◌, ◌-◌, ◌+◌, ◌^◌, [], ◌∷◌, Some, true, min, length, map, slice_set, false};
+ghost use Rattle.std.specs.Prelude.{All, ◌≡◌, ◌<◌, ◌≤◌, ◌-◌, ◌+◌, ◌^◌, [], ◌∷◌, Some, true, min, length, map, slice_set, false};
 ghost use Rattle.tc_isa.specs.Sets.{locks_of};
 ghost use Rattle.tc_isa.specs.declared.limits.TheConstants.{MAX_HELD};
 ghost use Rattle.tc_journal.specs.Batch.{ends_thread};
@@ -25,7 +25,7 @@ use tc_hall::hall::Hall;
 use tc_hall::place::Place;
 use tc_journal::block::Block;
 use tc_nested::first_release;
-use tc_queue::Waiters;
+use tc_order::Order;
 
 /// Puts the package as parked, and adds its thread to the sleepers.
 pub(crate) fn park(hall: &Hall, parts: &mut DeskParts, sleeping: &mut Sleeping, package: Package)
@@ -56,7 +56,7 @@ fn free_one(hall: &Hall, parts: &mut DeskParts, package: &mut Package, released:
 }
 
 /// Passes on one lock of a thread that has ended, and says whether the run was stopped.
-fn end_one<R: Wait, Q: Waiters>(
+fn end_one<R: Wait, Q: Order>(
     rt: &R,
     hall: &Hall,
     parts: &mut DeskParts,
@@ -65,6 +65,7 @@ fn end_one<R: Wait, Q: Waiters>(
     package: &mut Package,
     released: Released<'_>,
 ) -> bool
+    requires line { Q.fits queue.now hall.now }
     requires may { MayPassOn hall.now released.lock released.block.now «package».old parts.old }
     requires ended { ends_thread released.block.now.end ≡ true }
     requires seat { IsSeatFor (threads hall.now.terms) (Q.queue queue.now) (Q.seen seat.old) }
@@ -80,7 +81,7 @@ fn end_one<R: Wait, Q: Waiters>(
 }
 
 /// Passes on the locks of a thread that has ended in ascending order; says whether the run was stopped.
-fn end_all<R: Wait, Q: Waiters>(
+fn end_all<R: Wait, Q: Order>(
     rt: &R,
     shared: &Shared<'_, Q>,
     parts: &mut DeskParts,
@@ -88,6 +89,7 @@ fn end_all<R: Wait, Q: Waiters>(
     package: &mut Package,
     block: &Block,
 ) -> bool
+    requires lines { All (λ q. Q.fits q shared.now.hall.now) shared.now.queues.now }
     requires parts { MayAct shared.now.hall.now (Pack «package».old ∷ [])
         (length (locks_of block.now.held)) parts.old }
     requires may { MayEnd shared.now.hall.now.terms parts.old.pass.knows block.now «package».old }
@@ -113,7 +115,7 @@ fn end_all<R: Wait, Q: Waiters>(
 }
 
 /// What `settle` does at a thread's end.
-pub(crate) fn ended_with<R: Wait, Q: Waiters>(
+pub(crate) fn ended_with<R: Wait, Q: Order>(
     rt: &R,
     shared: &Shared<'_, Q>,
     parts: &mut DeskParts,
@@ -121,6 +123,7 @@ pub(crate) fn ended_with<R: Wait, Q: Waiters>(
     mut package: Package,
     block: Block,
 ) -> Settled
+    requires lines { All (λ q. Q.fits q shared.now.hall.now) shared.now.queues.now }
     requires parts { MayAct shared.now.hall.now (Pack «package» ∷ packed parts.old.aside) MAX_HELD parts.old }
     requires may { MayEnd shared.now.hall.now.terms parts.old.pass.knows block «package» }
     requires seats { HasSeats Q.queue Q.seen shared.now.hall.now.terms shared.now.queues.now seats.old }

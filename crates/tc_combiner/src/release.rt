@@ -20,7 +20,8 @@ use tc_hall::hall::Hall;
 use tc_hall::place::Place;
 use tc_journal::block::{Block, Kind};
 use tc_nested::{Next, plan};
-use tc_queue::{Turn, Waiters};
+use tc_order::Order;
+use tc_queue::Turn;
 use tc_segment::state::LockState;
 
 /// Grants the lock to the waiter, as adopted or as granted; a granted one is put as ready.
@@ -75,7 +76,7 @@ fn grant_next<R: Wait>(
 }
 
 /// Takes a released lock out of its package, and grants it to the turn behind or frees it.
-pub(crate) fn pass_on<R: Wait, Q: Waiters>(
+pub(crate) fn pass_on<R: Wait, Q: Order>(
     rt: &R,
     hall: &Hall,
     parts: &mut DeskParts,
@@ -84,6 +85,7 @@ pub(crate) fn pass_on<R: Wait, Q: Waiters>(
     package: &mut Package,
     released: Released<'_>,
 ) -> Passed
+    requires line { Q.fits queue.now hall.now }
     requires may { MayPassOn hall.now released.lock released.block.now «package».old parts.old }
     requires seat { IsSeatFor (threads hall.now.terms) (Q.queue queue.now) (Q.seen seat.old) }
     ensures { DidPass hall.now.terms released.entry.lock released.entry.block.now

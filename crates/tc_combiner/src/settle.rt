@@ -1,14 +1,15 @@
 //! What `settle` does, by the end of the block, over the parts of a desk.
 
-ghost use Rattle.std.specs.Prelude.{◌≤◌, ◌∷◌, length, map};
+ghost use Rattle.std.specs.Prelude.{All, ◌≤◌, ◌∷◌, length, map};
 ghost use Rattle.tc_hall.specs.Outs.{Pack};
 ghost use Rattle.tc_hall.specs.Rule.{threads};
+ghost use Rattle.tc_order.specs.Order.{AreInOrder};
 ghost use Rattle.tc_combiner.specs.Walks.{packed, IsAtHall, MayAct};
-ghost use Rattle.tc_combiner.specs.Answers.{Acquires, MayAsk};
+ghost use Rattle.tc_combiner.specs.Answers.{Acquires, EntersFirst, MayAsk, next_turn};
 ghost use Rattle.tc_combiner.specs.Release.{AtSeat, MayUnlock, Unlocks};
 ghost use Rattle.tc_combiner.specs.Change.{change};
 ghost use Rattle.tc_combiner.specs.View.{desk_with, HasSeats};
-ghost use Rattle.tc_combiner.specs.Settling.{HasSettled, KeepsParts, MaySettle};
+ghost use Rattle.tc_combiner.specs.Settling.{HasSettled, IfWants, KeepsParts, MaySettle};
 
 use crate::acquire::acquire_with;
 use crate::ends::{ended_with, park};
@@ -19,12 +20,12 @@ use crate::unlock::unlocked_with;
 use std::sync::Wait;
 use tc_context::package::Package;
 use tc_journal::block::{Block, End};
-use tc_queue::Waiters;
+use tc_order::Order;
 
 /// What `acquire` does, at the lock's place in the bench.
 /// Always inlined into both callers, since the compiler by itself inlines what has one caller.
 #[inline(always)]
-pub(crate) fn acquire_at<R: Wait, Q: Waiters>(
+pub(crate) fn acquire_at<R: Wait, Q: Order>(
     rt: &R,
     shared: &Shared<'_, Q>,
     parts: &mut DeskParts,
@@ -32,12 +33,16 @@ pub(crate) fn acquire_at<R: Wait, Q: Waiters>(
     package: Package,
     lock: u32,
 ) -> Settled
+    requires lines { All (λ q. Q.fits q shared.now.hall.now) shared.now.queues.now }
     requires parts { IsAtHall shared.now.hall.now (Pack «package» ∷ packed parts.old.aside) parts.old }
     requires may { MayAsk shared.now.hall.now.terms lock «package» }
+    requires order { AreInOrder Q.of shared.now.queues.now }
     requires seats { HasSeats Q.queue Q.seen shared.now.hall.now.terms shared.now.queues.now seats.old }
-    ensures { AtSeat lock (map Q.seen seats.old) (map Q.seen seats.new)
+    ensures acquired { AtSeat lock (map Q.seen seats.old) (map Q.seen seats.new)
         (λ s t. Acquires shared.now.hall.now.terms lock «package»
         (change s t) (change parts.old parts.new) result) }
+    ensures enters { EntersFirst (λ q. Q.fits q shared.now.hall.now × Q.of q lock) Q.notes
+        (next_turn «package») parts.old.pass parts.new.pass }
 {
     let queue = &shared.queues[lock as usize];
     let seat = &mut seats[lock as usize];
@@ -45,7 +50,7 @@ pub(crate) fn acquire_at<R: Wait, Q: Waiters>(
 }
 
 /// What `settle` does at an unlock, at the lock's place in the bench.
-fn unlocked_at<R: Wait, Q: Waiters>(
+fn unlocked_at<R: Wait, Q: Order>(
     rt: &R,
     shared: &Shared<'_, Q>,
     parts: &mut DeskParts,
@@ -54,6 +59,7 @@ fn unlocked_at<R: Wait, Q: Waiters>(
     lock: u32,
     block: Block,
 ) -> Settled
+    requires lines { All (λ q. Q.fits q shared.now.hall.now) shared.now.queues.now }
     requires parts { MayAct shared.now.hall.now (Pack «package» ∷ packed parts.old.aside) 2 parts.old }
     requires may { MayUnlock shared.now.hall.now.terms parts.old.pass.knows lock block «package» }
     requires seats { HasSeats Q.queue Q.seen shared.now.hall.now.terms shared.now.queues.now seats.old }
@@ -76,7 +82,7 @@ fn unlocked_at<R: Wait, Q: Waiters>(
 }
 
 /// What `settle` does, over the parts of a desk.
-pub(crate) fn settle_with<R: Wait, Q: Waiters>(
+pub(crate) fn settle_with<R: Wait, Q: Order>(
     rt: &R,
     shared: &Shared<'_, Q>,
     parts: &mut DeskParts,
@@ -85,8 +91,10 @@ pub(crate) fn settle_with<R: Wait, Q: Waiters>(
     package: Package,
     end: End,
 ) -> Settled
+    requires lines { All (λ q. Q.fits q shared.now.hall.now) shared.now.queues.now }
     requires parts { IsAtHall shared.now.hall.now (Pack «package» ∷ packed parts.old.aside) parts.old }
     requires seats { HasSeats Q.queue Q.seen shared.now.hall.now.terms shared.now.queues.now seats.old }
+    requires order { AreInOrder Q.of shared.now.queues.now }
     requires room { threads shared.now.hall.now.terms ≤ length sleeping.old.sleepers }
     requires may { MaySettle shared.now.hall.now.terms.image.value parts.old.pass.knows.worker end «package» }
     ensures keeps { KeepsParts shared.now.hall.now.terms «package»
@@ -94,6 +102,8 @@ pub(crate) fn settle_with<R: Wait, Q: Waiters>(
         (desk_with parts.new (map Q.seen seats.new) sleeping.new) result }
     ensures settled { HasSettled end «package» (desk_with parts.old (map Q.seen seats.old) sleeping.old)
         (desk_with parts.new (map Q.seen seats.new) sleeping.new) result }
+    ensures enters { IfWants end (λ i. EntersFirst (λ q. Q.fits q shared.now.hall.now × Q.of q i)
+        Q.notes (next_turn «package») parts.old.pass parts.new.pass) }
 {
     parts.ready.clear();
     // For the proofs only: the package's invariant. The same at each `keeps`; no code runs.

@@ -21,7 +21,7 @@ use tc_context::package::Package;
 use tc_hall::hall::Hall;
 use tc_hall::place::Place;
 use tc_nested::first_release;
-use tc_queue::Waiters;
+use tc_order::Order;
 
 /// Whether the package holds no lock.
 fn holds_none(package: &Package) -> bool
@@ -66,7 +66,7 @@ fn set_aside(hall: &Hall, parts: &mut DeskParts, package: Package)
 }
 
 /// What `settle` does at an unlock.
-pub(crate) fn unlocked_with<R: Wait, Q: Waiters>(
+pub(crate) fn unlocked_with<R: Wait, Q: Order>(
     rt: &R,
     hall: &Hall,
     parts: &mut DeskParts,
@@ -75,6 +75,7 @@ pub(crate) fn unlocked_with<R: Wait, Q: Waiters>(
     mut package: Package,
     released: Released<'_>,
 ) -> Settled
+    requires line { Q.fits queue.now hall.now }
     requires parts { MayAct hall.now (Pack «package» ∷ packed parts.old.aside) 2 parts.old }
     requires may { MayUnlock hall.now.terms parts.old.pass.knows released.lock
         released.block.now «package» }

@@ -6,7 +6,7 @@ ghost use Rattle.tc_hall.specs.Outs.{Pack, Loose};
 ghost use Rattle.tc_queue.specs.Lines.{MayCall, Next, with_line};
 ghost use Rattle.tc_queue.specs.Words.{IsTurn};
 ghost use Rattle.tc_combiner.specs.Packages.{IsWaiter};
-ghost use Rattle.tc_combiner.specs.Walks.{AskedAs, AskedTimes, Acts, FoundAs, LooksAfterFirst, IsTaken, TriedAs, WaitedAs, came_of, saw_at_stop};
+ghost use Rattle.tc_combiner.specs.Walks.{AskedAs, AskedTimes, Acts, Tried, FoundAs, LooksAfterFirst, IsTaken, TriedAs, WaitedAs, came_of, saw_at_stop};
 ghost use Rattle.tc_combiner.specs.declared.found.Asked.TheVariants.{Unlinked};
 
 use crate::attempt::Attempt;
@@ -17,7 +17,8 @@ use std::sync::Wait;
 use tc_context::package::Package;
 use tc_hall::hall::{Hall, LockOut, NotWaiting};
 use tc_hall::pass::Pass;
-use tc_queue::{Departure, Turn, Waiters};
+use tc_order::Order;
+use tc_queue::{Departure, Turn};
 use tc_segment::state::LockState;
 
 /// Tries to take the lock, and checks STOP if it is out.
@@ -58,7 +59,7 @@ fn try_adopt(hall: &Hall, pass: &mut Pass, t: u32, lock: u32) -> Attempt<Package
 }
 
 /// Asks for the turn behind, and checks STOP if it is not linked.
-fn try_next<R: Wait, Q: Waiters>(
+fn try_next<R: Wait, Q: Order>(
     rt: &R,
     hall: &Hall,
     pass: &mut Pass,
@@ -66,12 +67,13 @@ fn try_next<R: Wait, Q: Waiters>(
     seat: &mut Q::Seat,
     own: Turn,
 ) -> Attempt<Turn>
+    requires line { Q.fits queue.now hall.now }
     requires own { pass.old.table ≡ hall.now.table }
     requires asks { MayCall (Q.queue queue.now) (Q.seen seat.old) own }
     ensures line { Q.seen seat.new ≡ with_line (Q.seen seat.old) (Next own (came_of result)) }
     ensures tried { TriedAs 0 (λ u. []) (λ p u. IsTurn (Q.queue queue.now).threads u) pass.old pass.new result }
 {
-    match queue.next(rt, seat, own) {
+    match queue.next(rt, hall, pass, seat, own) {
         Some(next) => Attempt::Came(next),
         None => {
             if calls::stopped(hall, pass) {
@@ -128,23 +130,32 @@ pub(crate) fn await_package<R: Wait>(
 }
 
 /// Asks once for the turn behind, and leaves if there is none.
-fn ask<R: Wait, Q: Waiters>(rt: &R, queue: &Q, seat: &mut Q::Seat, own: Turn) -> Asked
+fn ask<R: Wait, Q: Order>(
+    rt: &R,
+    hall: &Hall,
+    pass: &mut Pass,
+    queue: &Q,
+    seat: &mut Q::Seat,
+    own: Turn,
+) -> Asked
+    requires own { (pass.old.table ≡ hall.now.table) × Q.fits queue.now hall.now }
     requires asks { MayCall (Q.queue queue.now) (Q.seen seat.old) own }
     ensures asked { AskedAs own (Q.seen seat.old) (Q.seen seat.new) result }
     ensures once { (n : ℕ) × AskedTimes n own (Q.seen seat.old) (Q.seen seat.new) × (n ≤ 1)
         × (result ≡ Unlinked → n ≡ 1) }
+    ensures acts { Acts [] [] [] pass.old pass.new × Tried 0 0 pass.old.knows pass.new.knows }
 {
-    if let Some(next) = queue.next(rt, seat, own) {
+    if let Some(next) = queue.next(rt, hall, pass, seat, own) {
         return Asked::Next(next);
     }
-    match queue.leave(rt, seat, own) {
+    match queue.leave(rt, hall, pass, seat, own) {
         Departure::Left => Asked::Nobody,
         Departure::Followed => Asked::Unlinked,
     }
 }
 
 /// Finds the turn behind this one, once it is linked, or leaves the queue if nobody is behind.
-pub(crate) fn find_next<R: Wait, Q: Waiters>(
+pub(crate) fn find_next<R: Wait, Q: Order>(
     rt: &R,
     hall: &Hall,
     pass: &mut Pass,
@@ -152,6 +163,7 @@ pub(crate) fn find_next<R: Wait, Q: Waiters>(
     seat: &mut Q::Seat,
     own: Turn,
 ) -> Found
+    requires line { Q.fits queue.now hall.now }
     requires own { pass.old.table ≡ hall.now.table }
     requires asks { MayCall (Q.queue queue.now) (Q.seen seat.old) own }
     ensures acts { Acts (saw_at_stop result) [] [] pass.old pass.new }
@@ -159,7 +171,7 @@ pub(crate) fn find_next<R: Wait, Q: Waiters>(
     ensures looks { LooksAfterFirst own (Q.seen seat.old) (Q.seen seat.new)
         pass.old.knows pass.new.knows }
 {
-    match ask(rt, queue, seat, own) {
+    match ask(rt, hall, pass, queue, seat, own) {
         Asked::Nobody => return Found::Nobody,
         Asked::Next(next) => return Found::Next(next),
         Asked::Unlinked => {}

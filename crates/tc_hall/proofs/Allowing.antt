@@ -1,6 +1,6 @@
 -- Where the lines allow the events of an operation, and what else they ask holds, they are enabled.
 use Rattle.std.proofs.Common.{◌≡◌, ℕ, zero, suc, ◌+◌, ◌<◌, ◌==◌, true, not, List, [], ◌∷◌, ◌++◌, replicate, sym, refl, ap, ◌∙◌, subst, arith, Option, Some, None}
-use Rattle.tc_hall.proofs.Vocabulary.{AreEnabled, Commit, Core, Course, End, Event, Hall, HallTerms, IsBetween, Knows, Operation, PackageView, Parked, Place, Ready, State, Waiting, Done, after_events, claim, commit, free, is_claimable, join, lay, look, machine_limits, miss, next_lock, put, reach, split, stop, stopped, take, turns_by}
+use Rattle.tc_hall.proofs.Vocabulary.{AreEnabled, Commit, Core, Course, End, Event, Hall, HallTerms, IsBetween, Knows, Operation, PackageView, Parked, Place, Ready, State, Waiting, Done, after_events, claim, commit, free, is_claimable, join, lay, line, look, machine_limits, miss, next_lock, put, reach, split, stop, stopped, take, turns_by}
 use Rattle.std.specs.Cmp.Derive.{both_true}
 use Rattle.std.specs.Prelude.{is_some}
 use Rattle.std.proofs.lemmas.Bool.{and_parts}
@@ -78,9 +78,9 @@ module _ (k : HallTerms) where
 
     pub allowed : (o : Operation) (es : List Event) → IsOf k s c v o es → AreAsked k c v o es → LinesAllowAll k c es → Come c es
     unfolding is_enabled effect
-    allowed (claim t q) es (alone o) asks lines = (asks, tt)
-    allowed (claim t q) es (adopted lock l word has loose) asks lines = (both_true (passes c v.worker t lock asks lines.0.0) lines.0.1, tt)
-    allowed (claim t q) es (granted lock l word has loose) asks lines = (
+    allowed (claim t word q) es (alone o) asks lines = (asks, tt)
+    allowed (claim t word q) es (adopted lock l is has loose) asks lines = (both_true (passes c v.worker t lock asks lines.0.0) lines.0.1, tt)
+    allowed (claim t word q) es (granted lock l is has loose) asks lines = (
       both_true (passes c v.worker t lock asks lines.0.0) (ap not lines.0.1),
       (both_true (and_parts _ _ asks.0).0 (both_true asks.1 (ap (λ (x : Course). is_claimable x.place) (if_here _ _ t t refl))), tt),
     )
@@ -92,6 +92,7 @@ module _ (k : HallTerms) where
     allowed (look t found) es is asks lines = subst (Come c) (sym is) tt
     allowed stop es is asks lines = subst (Come c) (sym is) tt
     allowed (stopped found) es is asks lines = subst (Come c) (sym is) tt
+    allowed (line i d) es is asks lines = subst (Come c) (sym is) tt
     allowed (reach slot) es is asks lines = subst (Come c) (sym is) tt
     allowed (lay slot) es is asks lines = subst (Come c) (sym is) tt
     allowed split es is asks lines = subst (Come c) (sym is) tt

@@ -61,7 +61,7 @@ module _ (k : HallTerms) (id : ℕ) (v : Knows) (ws : List ℕ) (xs : List (Opti
   in_slot t p e =
       let below : t < threads k = omega (arith, (there rule.told.places t p p e).0, rule.told.law.all_packages) in
       let saw = seen t below in
-      let two = (rule.passes id v final.1.1).done saw.0 t saw.1 in
+      let two = (rule.passes id v final.1.1).done saw.0 t below saw.1 in
       let h = (home_of s.words s.homes s.views t p (rule.placed.holder t) (rule.placed.each t p e) (omega arith)).1 in
       record { context = h.context; at = final.4 t (Some (Package h.context)) h.slot; home = h.slot; same = h.same; ended = h.order.ended two }
 

@@ -15,8 +15,10 @@ pub mod Opening
 pub mod Left
 pub mod Ordering
 pub mod Exact
+mod Words
 pub mod Parts
 pub mod Stepping
+mod Lining
 pub mod Ended
 pub mod Holding
 pub mod Putting

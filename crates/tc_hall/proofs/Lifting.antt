@@ -1,7 +1,7 @@
 -- A hall's order with the events of the lines is one list of events, by the tie of each step.
 use Rattle.std.proofs.Common.{◌≡◌, ℕ, zero, suc, ◌+◌, ◌-◌, ◌<◌, ◌≤◌, Bool, true, false, ◌==◌, List, [], ◌∷◌, ◌++◌, replicate, not, sym, refl, ap, ◌∙◌, subst, arith, Option, Some, None, slice_index, if◌then◌else◌}
 use Rattle.tc_hall.proofs.Vocabulary.{AreEnabled, AreStocked, Cargo, Core, Custody, Event, Hall, IsFree, IsOpening, IsOrdered, KeptHall, Knows, Lock, LockAt, LockView, Look, Lying, MAX_GUARDS, MayDo, Operation, Package, PackageAt, PackageView, Ready, STOP, Shows, ShowsLock, ShowsThread, Stopped, HallTerms, after_events, after_miss, after_operation, claim, commit, free, get_elem?, in_slot, join}
-use Rattle.tc_hall.proofs.Vocabulary.{last_end, lay, lies_at, lock_in_package, lock_in_slot, lock_of, lock_with_pass, locked_in, locks, look, machine_limits, miss, none, opening, outline, place_shown, put, reach, slot_word, some, some-injective, some-ne-none, split, starting, stop, stopped, take, threads, with_call, with_custody, with_pass}
+use Rattle.tc_hall.proofs.Vocabulary.{last_end, lay, line, line_word, words_of, lies_at, lock_in_package, lock_in_slot, lock_of, lock_with_pass, locked_in, locks, look, machine_limits, miss, none, opening, outline, place_shown, put, reach, slot_word, some, some-injective, some-ne-none, split, starting, stop, stopped, take, threads, with_call, with_custody, with_pass}
 use Rattle.std.specs.Cmp.Derive.{both_true}
 use Rattle.std.specs.Prelude.{nat_lt}
 use Rattle.std.proofs.lemmas.Bool.{lt-ltb}
@@ -22,7 +22,8 @@ use Rattle.tc_hall.proofs.Shows.{shown_at, shown_code}
 use Rattle.tc_hall.proofs.Making.{clean_free}
 use Rattle.tc_hall.proofs.Cases.{clash, clash_at, same_package, same_lock}
 use Rattle.tc_hall.proofs.Outlines.{at_self, eq_from}
-use Rattle.tc_hall.proofs.Tying.{Moment, Asking, Showing, loose_it, claim_asking, claim_showing, put_asking, put_showing, take_asking, take_showing, free_asking, free_showing, found_shown, stop_shown, slot_moved, split_shown, join_shown}
+use Rattle.tc_hall.proofs.Words.{line_behind}
+use Rattle.tc_hall.proofs.Tying.{line_shown, Moment, Asking, Showing, loose_it, claim_asking, claim_showing, put_asking, put_showing, take_asking, take_showing, free_asking, free_showing, found_shown, stop_shown, slot_moved, split_shown, join_shown}
 use Rattle.tc_hall.proofs.Committing.{commit_asking, commit_showing}
 use Rattle.tc_hall.proofs.Allowing.{allowed}
 use Rattle.tc_hall.specs.Ties.{may_come, loose_at, IsOf, AreAsked, Ties}
@@ -37,8 +38,8 @@ enabled_more k c [] ys a b = b
 enabled_more k c (x ∷ xs) ys a b = (a.0, enabled_more k (effect k.image.value c x) xs ys a.1 b)
 
 -- a lock's line changes, and neither where it is nor anything else
-line_shown : (k : HallTerms) (s : Hall) (c : Core) (lock : ℕ) (x : Custody) → x.place ≡ (c.custody lock).place → Shows k s c → Shows k s (with_custody c lock x)
-line_shown k s c lock x same seen = record {
+custody_shown : (k : HallTerms) (s : Hall) (c : Core) (lock : ℕ) (x : Custody) → x.place ≡ (c.custody lock).place → Shows k s c → Shows k s (with_custody c lock x)
+custody_shown k s c lock x same seen = record {
   between = seen.between;
   shown = record {
     place = seen.shown.place;
@@ -56,11 +57,11 @@ line_shown k s c lock x same seen = record {
 
 entered_shown : (k : HallTerms) (s : Hall) (c : Core) (w t lock : ℕ) → Shows k s c → Shows k s (effect k.image.value c (Enter w t lock))
 unfolding effect
-entered_shown k s c w t lock seen = line_shown k s c lock (entered (c.custody lock) t) refl seen
+entered_shown k s c w t lock seen = custody_shown k s c lock (entered (c.custody lock) t) refl seen
 
 left_shown : (k : HallTerms) (s : Hall) (c : Core) (w lock : ℕ) → Shows k s c → Shows k s (effect k.image.value c (Leave w lock))
 unfolding effect
-left_shown k s c w lock seen = line_shown k s c lock (left_by_all (c.custody lock)) refl seen
+left_shown k s c w lock seen = custody_shown k s c lock (left_by_all (c.custody lock)) refl seen
 
 -- ---- the tie of each operation
 
@@ -71,7 +72,7 @@ module _ (k : HallTerms) (m : Moment k) where
   quiet o nothing is shows = ((λ c es seen of. subst (AreAsked k c m.view o) (sym (is c es of)) (nothing c)), (λ c es seen of enabled. shows c es seen (is c es of)))
 
   tied : (o : Operation) → MayDo k m.state m.id m.view o → Asking k m o × Showing k m o
-  tied (claim t q) may = (claim_asking k m t q may, claim_showing k m t q may)
+  tied (claim t word q) may = (claim_asking k m t word q may, claim_showing k m t word q may)
   tied (take i l) may = (take_asking k m i l may, take_showing k m i l may)
   tied (commit stamp b q) may = (commit_asking k m q may.1 stamp b may.2, commit_showing k m q may.1 stamp b may.2)
   tied (put q place) may = (put_asking k m q place may, put_showing k m q place may)
@@ -80,6 +81,7 @@ module _ (k : HallTerms) (m : Moment k) where
   tied (look t found) may = quiet (look t found) (λ c. tt) (λ c es is. is) (λ c es seen is. found_shown k m c es seen is (slot_word t) found (with_call m.view (Look t found)) may.1 refl refl refl)
   tied stop may = quiet stop (λ c. tt) (λ c es is. is) (λ c es seen is. stop_shown k m c es seen is)
   tied (stopped found) may = quiet (stopped found) (λ c. tt) (λ c es is. is) (λ c es seen is. found_shown k m c es seen is STOP found (with_call m.view (Stopped found)) may refl refl refl)
+  tied (line i d) may = quiet (line i d) (λ c. tt) (λ c es is. is) (λ c es seen is. line_shown k m c es seen is i (line_word k i d) _ d (line_behind k i d))
   tied (reach slot) may = quiet (reach slot) (λ c. tt) (λ c es is. is) (λ c es seen is. slot_moved k m c es seen is slot none (Some slot) (λ x e. some-ne-none (Some x) (sym e)))
   tied (lay slot) may = quiet (lay slot) (λ c. tt) (λ c es is. is) (λ c es seen is. slot_moved k m c es seen is slot (some None) None (λ x e. clash_at (some None) x refl e))
   tied split may = quiet split (λ c. tt) (λ c es is. is) (λ c es seen is. split_shown k m c es seen is)
@@ -95,7 +97,7 @@ ties k s m rule may =
 
 module _ (k : HallTerms) (slots : List (Option Cargo)) (ready : AreStocked k.image.value (threads k) (locks k) k.fuel k.limit slots) where
   abbrev ws : List ℕ
-  ws = replicate (slot_word (threads k + locks k)) 0
+  ws = replicate (words_of k) 0
 
   abbrev first : Hall
   first = opening ws slots (starting k)
@@ -131,7 +133,7 @@ module _ (k : HallTerms) (slots : List (Option Cargo)) (ready : AreStocked k.ima
   opens_shown = record {
     between = λ t. (refl, refl);
     shown = record {
-      place = λ t below. (let z : slice_index ws (slot_word t) ≡ 0 = get_or-replicate (slot_word (threads k + locks k)) (slot_word t) 0 0 (omega arith) in sym (ap place_shown z ∙ shown_code Ready (omega arith)));
+      place = λ t below. (let z : slice_index ws (slot_word t) ≡ 0 = get_or-replicate (words_of k) (slot_word t) 0 0 (omega arith) in sym (ap place_shown z ∙ shown_code Ready (omega arith)));
       thread = opens_thread;
       lock = opens_lock;
     };

@@ -1,7 +1,8 @@
 -- How passes are made and joined.
 use Rattle.std.proofs.Common.{◌≡◌, ◌≢◌, ◌⊎◌, ℕ, zero, suc, ◌+◌, ◌<◌, ◌≤◌, Bool, true, false, List, [], ◌∷◌, ◌++◌, length, set, replicate, sym, refl, ap, ◌∙◌, subst, ⊎_elim, inl, inr, arith, Some, None}
-use Rattle.tc_hall.proofs.Vocabulary.{AreApart, AreLocksPlaced, ArePlaced, Block, PassCall, Free, HasStopped, Homes, IsFree, IsPass, Joins, KeptHall, Knows, Lies, LiesLock, LockView, Look, PackageView, Put, Shown, Splits, Spot, Stop, Stopped, HallTerms, clean, dealt, fresh, get_elem?, gone, home, inside, length-replicate, locks, merged, none, out, some, some-injective, some-ne-none}
-use Rattle.tc_hall.proofs.Vocabulary.{threads}
+use Rattle.tc_hall.proofs.Vocabulary.{Line, AreApart, AreLocksPlaced, ArePlaced, Block, PassCall, Free, HasStopped, Homes, IsFree, IsPass, Joins, KeptHall, Knows, Lies, LiesLock, LockView, Look, PackageView, Put, Shown, Splits, Spot, Stop, Stopped, HallTerms, clean, dealt, fresh, get_elem?, gone, home, inside, length-replicate, locks, merged, none, out, some, some-injective, some-ne-none}
+use Rattle.tc_hall.proofs.Vocabulary.{Take, threads}
+use Rattle.tc_hall.specs.declared.board.PassCall.TheVariants.{Claim, Commit}
 use mathlib.Core.Logic.{dite}
 use mathlib.Core.Option as maybe
 use native.Mathlib.Decide.{ℕ_discrete}
@@ -37,7 +38,7 @@ clean_pass image its workers h ws n m worker maker same below long = record {
   worker = below;
   joined = λ i w e. absurd (some-ne-none w (sym e));
   sealed = λ i b e. absurd (some-ne-none b (sym e));
-  done = λ i t e. absurd (some-ne-none (Look t 2) (sym e));
+  done = λ i t b e. absurd (some-ne-none (Look t 2) (sym e));
   stop = λ i e. absurd (some-ne-none Stop (sym e));
   stopped = λ i e. absurd (some-ne-none (Stopped 1) (sym e));
   pinned = λ t e. absurd (no_pinned n t e);
@@ -274,9 +275,9 @@ module _ (k : HallTerms) where
       let wide_locks : length v.locks ≡ locks k = r.locks_placed.sized id v at live in
       let vs' : List Knows = set s.views id left in
       let one = stays s.words s.words s.homes s.homes s.views id v left at (λ e. e) n r.told.places r.placed r.told.law.all_packages (λ u b. refl) (λ u b. refl) refl refl refl (λ u b e. e) (λ u b e. e) in
-      let two = locks_stay n (locks k) r.told.segments s.words s.words s.homes s.homes s.views id v left at (λ i. refl) (λ i. refl) (λ u q b e. e) (λ u q b e. e) refl refl (λ i e. e) (λ i e. e) r.locks_placed in
-      let all = passes_stay k.image.value k.workers r.told.history r.told.history s.words s.words (λ b e. e) (λ u e. e) (λ e. e) s.views id left r.passes
-      (pass_same k.image.value k.workers r.told.history r.told.history s.words s.words (λ b e. e) (λ u e. e) (λ e. e) v left old (refl, refl, refl, refl) refl refl refl refl) in
+      let two = locks_stay n (locks k) r.told.segments s.words s.words s.homes s.homes s.views id v left at (λ i b. refl) (λ i. refl) (λ u q b e. e) (λ u q b e. e) refl refl (λ i e. e) (λ i e. e) r.locks_placed in
+      let all = passes_stay k.image.value k.workers r.told.history r.told.history s.words s.words (λ b e. e) (λ u b e. e) (λ e. e) s.views id left r.passes
+      (pass_same k.image.value k.workers r.told.history r.told.history s.words s.words (λ b e. e) (λ u b e. e) (λ e. e) v left old (refl, refl, refl, refl) refl refl refl refl) in
       let new : Knows = fresh v in
       record {
         told = r.told;
@@ -302,10 +303,10 @@ module _ (k : HallTerms) where
       let old = r.passes id v at in
       let theirs = r.passes other w its in
       let one = stays s.words s.words s.homes s.homes s.views id v both' at (λ e. e) n r.told.places r.placed r.told.law.all_packages (λ u b. refl) (λ u b. refl) refl refl refl (λ u b e. e) (λ u b e. e) in
-      let two = locks_stay n (locks k) r.told.segments s.words s.words s.homes s.homes s.views id v both' at (λ i. refl) (λ i. refl) (λ u q b e. e) (λ u q b e. e) refl refl (λ i e. e) (λ i e. e) r.locks_placed in
+      let two = locks_stay n (locks k) r.told.segments s.words s.words s.homes s.homes s.views id v both' at (λ i b. refl) (λ i. refl) (λ u q b e. e) (λ u q b e. e) refl refl (λ i e. e) (λ i e. e) r.locks_placed in
       let h = r.told.history in
-      let all = passes_stay k.image.value k.workers h h s.words s.words (λ b e. e) (λ u e. e) (λ e. e) s.views id both' r.passes
-      (pass_kept k.image.value k.workers h h s.words s.words (λ b e. e) (λ u e. e) (λ e. e) v both' old (refl, refl, refl, refl)
+      let all = passes_stay k.image.value k.workers h h s.words s.words (λ b e. e) (λ u b e. e) (λ e. e) s.views id both' r.passes
+      (pass_kept k.image.value k.workers h h s.words s.words (λ b e. e) (λ u b e. e) (λ e. e) v both' old (refl, refl, refl, refl)
       (λ i u e. ⊎_elim (λ o. inl o) (λ (o : (f : ℕ) × (get_elem? (w.worker ∷ w.joined) f ≡ some u)). inr (joined_below o.0 u theirs o.1)) (either_at v.joined (w.worker ∷ w.joined) i u e))
       (λ i b e. ⊎_elim (λ o. inl o) (λ (o : (f : ℕ) × (get_elem? w.sealed f ≡ some b)). inr (theirs.sealed o.0 b o.1)) (either_at v.sealed w.sealed i b e))
       (λ i c e. ⊎_elim (λ o. inl o) (λ (o : (f : ℕ) × (get_elem? w.calls f ≡ some c)). inr (told_true o.0 c theirs o.1)) (either_at v.calls w.calls i c e))
@@ -317,12 +318,12 @@ module _ (k : HallTerms) where
         clock = r.clock;
         placed = less n (locks k) r.told.places r.told.segments s.words s.homes vs' one two w other free there';
         locks_placed = locks_less n (locks k) r.told.places r.told.segments s.words s.homes vs' one two w other free there';
-        passes = passes_stay k.image.value k.workers h h s.words s.words (λ b e. e) (λ u e. e) (λ e. e) vs' other gone all record {
+        passes = passes_stay k.image.value k.workers h h s.words s.words (λ b e. e) (λ u b e. e) (λ e. e) vs' other gone all record {
           of = λ live. absurd (apart true live refl);
           worker = r.told.limits.workers.0;
           joined = λ i w e. absurd (some-ne-none w (sym e));
           sealed = λ i b e. absurd (some-ne-none b (sym e));
-          done = λ i t e. absurd (some-ne-none (Look t 2) (sym e));
+          done = λ i t b e. absurd (some-ne-none (Look t 2) (sym e));
           stop = λ i e. absurd (some-ne-none Stop (sym e));
           stopped = λ i e. absurd (some-ne-none (Stopped 1) (sym e));
           pinned = λ t e. absurd (some-ne-none true (sym e));
@@ -337,9 +338,13 @@ module _ (k : HallTerms) where
       joined_below zero u p e = subst (λ (z : ℕ). z < k.workers) (some-injective w.worker u e) p.worker
       joined_below (suc f) u p e = p.joined f u e
 
-      told_true : (f : ℕ) (c : PassCall) → IsPass k.image.value k.workers r.told.history s.words w → get_elem? w.calls f ≡ some c → IsTrueCall s.words c
+      told_true : (f : ℕ) (c : PassCall) → IsPass k.image.value k.workers r.told.history s.words w → get_elem? w.calls f ≡ some c → IsTrueCall (threads k) s.words c
       told_true f (Put t place numbers given turns) p e = tt
+      told_true f (Claim t place) p e = tt
+      told_true f (Commit t stamp) p e = tt
+      told_true f (Take i) p e = tt
       told_true f (Free i) p e = tt
-      told_true f (Look t found) p e = λ is. p.done f t (e ∙ ap (λ (z : ℕ). some (Look t z)) is)
+      told_true f (Line i d) p e = tt
+      told_true f (Look t found) p e = λ b is. p.done f t b (e ∙ ap (λ (z : ℕ). some (Look t z)) is)
       told_true f Stop p e = p.stop f e
       told_true f (Stopped found) p e = λ is. p.stopped f (e ∙ ap (λ (z : ℕ). some (Stopped z)) is)

@@ -1,22 +1,22 @@
 -- Each step on a package keeps the rule.
 use Rattle.std.proofs.Common.{◌≡◌, ◌≢◌, ◌⊎◌, ℕ, ◌+◌, ◌<◌, Bool, true, false, List, [], ◌∷◌, length, set, sym, refl, ap, ◌∙◌, subst, ⊎_elim, inl, inr, arith, Option, Some, None, slice_index, length-set, get_or-set_other, get_or-set_same}
-use Rattle.tc_hall.proofs.Vocabulary.{CLOCK, Cargo, Gets, Has, HasLock, Homes, IsHome, IsPackageAfter, KeptHall, Knows, Lies, LockView, Package, PackageView, HallTerms, after_claim, after_miss, bare, get_elem?, gives, is_pinned, keeps, kept, locked_in, locks, none, slot_word, some, some-injective, some-ne-none, stepped, takes, threads}
+use Rattle.tc_hall.proofs.Vocabulary.{CLOCK, Cargo, Gets, Has, HasLock, Homes, IsHome, IsPackageAfter, KeptHall, Knows, Lies, LockView, Package, PackageView, HallTerms, Stop, after_claim, after_miss, bare, claim_call, get_elem?, gives, is_pinned, keeps, kept, locked_in, locks, none, slot_word, some, some-injective, some-ne-none, stepped, takes, threads}
 use mathlib.Core.Logic.{dite}
 use mathlib.Core.Option as maybe
 use native.Mathlib.Decide.{ℕ_discrete}
 use lib.Seq.{set-get_or}
 use Rattle.atomic_table.specs.Table.{State}
-use Rattle.atomic_table.proofs.Lists.{at_set, set_here, set_else}
+use Rattle.atomic_table.proofs.Lists.{at_set, set_here, set_else, at_longer}
 use Rattle.tc_mutex_spec.proofs.ListLaws.{there}
 use Rattle.tc_hall.specs.Rule.{IsPackageOut}
 use Rattle.tc_hall.proofs.Placing.{moves, stays}
 use Rattle.tc_hall.proofs.Cases.{clash, same_some, clash_at, same_at, same_package, out_inside}
 use Rattle.tc_hall.proofs.Packing.{claims_locks, locks_stay}
 use Rattle.tc_hall.proofs.LockLists.{add_all-has}
-use Rattle.tc_hall.proofs.Outs.{package_came, no_call_claimed}
+use Rattle.tc_hall.proofs.Outs.{package_came, called_claimed}
 use Rattle.tc_hall.proofs.Listing.{listed_stays}
-use Rattle.tc_hall.proofs.Ranks.{apart_stays, stop_stays, pass_kept, pass_same, passes_stay, done_still, stops_still, stops_back}
-use Rattle.tc_lemmas.proofs.Lists.{something_at}
+use Rattle.tc_hall.proofs.Ranks.{apart_stays, stop_stays, IsTrueCall, pass_kept, pass_same, passes_stay, done_still, stops_still, stops_back}
+use Rattle.tc_lemmas.proofs.Lists.{at_end, something_at}
 
 pub some_same : (u t : ℕ) → Some t ≡ Some u → u ≡ t
 some_same u t e = cc e
@@ -59,25 +59,25 @@ module _ (k : HallTerms) where
         slots = r.slots;
         clock = r.clock;
         placed = stays s.words s.words s.homes s.homes s.views id v w at (λ e. e) (threads k) r.told.places r.placed r.told.law.all_packages (λ u b. refl) (λ u b. refl) refl refl refl (λ u b e. e) (λ u b e. e);
-        locks_placed = locks_stay (threads k) (locks k) r.told.segments s.words s.words s.homes s.homes s.views id v w at (λ i. refl) (λ i. refl) (λ u q b e. e) (λ u q b e. e) refl refl (λ i e. e) (λ i e. e) r.locks_placed;
-        passes = passes_stay k.image.value k.workers h h s.words s.words (λ b e. e) (λ u e. e) (λ e. e) s.views id w r.passes (pass_same k.image.value k.workers h h s.words s.words (λ b e. e) (λ u e. e) (λ e. e) v w (r.passes id v at) (refl, refl, refl, refl) refl refl refl refl);
+        locks_placed = locks_stay (threads k) (locks k) r.told.segments s.words s.words s.homes s.homes s.views id v w at (λ i b. refl) (λ i. refl) (λ u q b e. e) (λ u q b e. e) refl refl (λ i e. e) (λ i e. e) r.locks_placed;
+        passes = passes_stay k.image.value k.workers h h s.words s.words (λ b e. e) (λ u b e. e) (λ e. e) s.views id w r.passes (pass_same k.image.value k.workers h h s.words s.words (λ b e. e) (λ u b e. e) (λ e. e) v w (r.passes id v at) (refl, refl, refl, refl) refl refl refl refl);
         stop = λ e. stop_stays s.views id v w at (λ i e. (i, e)) (r.stop e);
         apart = apart_stays s.views id v w at record { worker = refl; maker = refl; made = refl; spent = refl; joined = refl } live r.apart;
         listed = listed_stays r.told.history s.views id v w at r.listed record { worker = refl; maker = refl; made = omega arith; spent = refl; joined = refl; sealed = refl };
       }
 
-  abbrev pub taken : Knows → ℕ → PackageView → Knows
-  taken v t q = record (after_claim v q) { open_slot = Some t }
+  abbrev pub taken : Knows → ℕ → ℕ → PackageView → Knows
+  taken v t word q = record (after_claim v word q) { open_slot = Some t }
 
-  pub takes_home : (s : St) (r : KeptHall k s) (id t new : ℕ) (v : Knows) (p : PackageView) (h : IsHome s.words s.homes t p) → get_elem? s.views id ≡ some v → v.spent ≡ false → v.open_slot ≡ None → t < threads k → new ≡ 512 + v.worker
-      → slice_index s.words (slot_word t) ≢ 2 → get_elem? r.told.places t ≡ some p → r.placed.holder t ≡ none → h.context.context.thread ≡ t → KeptHall k (stepped s (slot_word t) new id [] (taken v t h.context) (takes t (Some (Package h.context))))
-  takes_home s r id t new v p h at live free below new_is not_two place is_home thread =
+  pub takes_home : (s : St) (r : KeptHall k s) (id t word new : ℕ) (v : Knows) (p : PackageView) (h : IsHome s.words s.homes t p) → get_elem? s.views id ≡ some v → v.spent ≡ false → v.open_slot ≡ None → t < threads k → new ≡ 512 + v.worker
+      → slice_index s.words (slot_word t) ≢ 2 → get_elem? r.told.places t ≡ some p → r.placed.holder t ≡ none → h.context.context.thread ≡ t → KeptHall k (stepped s (slot_word t) new id [] (taken v t word h.context) (takes t (Some (Package h.context))))
+  takes_home s r id t word new v p h at live free below new_is not_two place is_home thread =
       let q : PackageView = h.context in
-      let w : Knows = taken v t q in
+      let w : Knows = taken v t word q in
       let ws' : List ℕ = set s.words (slot_word t) new in
       let wide : length v.packages ≡ threads k = r.placed.sized id v at live in
       let here : get_elem? w.packages t ≡ some (Some (bare q)) = subst (λ (z : ℕ). get_elem? (set v.packages z (Some (bare q))) t ≡ some (Some (bare q))) (sym thread) (set_here v.packages t (Some (bare q)) (omega arith)) in
-      let done = done_still s.words (slot_word t) new not_two in
+      let done = done_still (threads k) s.words (slot_word t) new not_two in
       let stops = stops_still s.words (slot_word t) new (λ e. omega arith) in
       let old = r.passes id v at in record {
         told = r.told;
@@ -99,22 +99,24 @@ module _ (k : HallTerms) where
         locks_placed = claims_locks (threads k) (locks k) r.told.segments s.words ws' s.homes s.views id v w q r.locks_placed r.told.law.all_states at live refl refl
             (λ i. get_or-set_other s.words (slot_word t) (slot_word (threads k + i)) new 0 (λ e. omega arith)) t below h.slot free refl;
         passes = passes_stay k.image.value k.workers r.told.history r.told.history s.words ws' (λ b e. e) done stops s.views id w r.passes
-            (pass_kept k.image.value k.workers r.told.history r.told.history s.words ws' (λ b e. e) done stops v w old (refl, refl, refl, length-set v.pinned q.context.thread (is_pinned q)) (λ i u e. inl e) (λ i b e. inl e) (λ i c e. inl e)
+            (pass_kept k.image.value k.workers r.told.history r.told.history s.words ws' (λ b e. e) done stops v w old (refl, refl, refl, length-set v.pinned q.context.thread (is_pinned q)) (λ i u e. inl e) (λ i b e. inl e)
+            (λ i c e. ⊎_elim (λ z. inl z) (λ (z : (i ≡ length v.calls) × (claim_call q word ≡ c)). inr (subst (IsTrueCall (threads k) ws') z.1 tt)) (at_end v.calls (claim_call q word) c i e))
             (λ u e. ⊎_elim (λ (o : (u ≡ q.context.thread) × (is_pinned q ≡ true)). inr (stops (h.fits.stop o.1))) (λ (o : (u ≢ q.context.thread) × (get_elem? v.pinned u ≡ some true)). inl o.1) (at_set v.pinned q.context.thread u (is_pinned q) true e)));
-        stop = λ e. stop_stays s.views id v w at (λ i e. (i, e)) (r.stop (stops_back s.words (slot_word t) new (λ e. omega arith) e));
+        stop = λ e. stop_stays s.views id v w at (λ i h. (i, at_longer v.calls (claim_call q word ∷ []) i Stop h)) (r.stop (stops_back s.words (slot_word t) new (λ e. omega arith) e));
         apart = apart_stays s.views id v w at record { worker = refl; maker = refl; made = refl; spent = refl; joined = refl } live r.apart;
         listed = listed_stays r.told.history s.views id v w at r.listed record { worker = refl; maker = refl; made = omega arith; spent = refl; joined = refl; sealed = refl };
       }
 
   -- what the pass learns of it
   pub gets : (s : St) (r : KeptHall k s) (id t : ℕ) (v : Knows) (p : PackageView) (h : IsHome s.words s.homes t p) → get_elem? s.views id ≡ some v → v.spent ≡ false → t < threads k
-      → get_elem? r.told.places t ≡ some p → r.placed.holder t ≡ none → h.context.context.thread ≡ t → Gets (slice_index s.words (slot_word t)) t h.context v (after_claim v h.context)
+      → get_elem? r.told.places t ≡ some p → r.placed.holder t ≡ none → h.context.context.thread ≡ t → Gets (slice_index s.words (slot_word t)) t h.context v (after_claim v (slice_index s.words (slot_word t)) h.context)
   gets s r id t v p h at live below place is_home thread =
       let q : PackageView = h.context in
+      let word : ℕ = slice_index s.words (slot_word t) in
       let after : IsPackageAfter k.image.value k.fuel r.told.history t p = r.told.law.packages_after t p place in
       let wide : length v.locks ≡ locks k = r.locks_placed.sized id v at live in
-      let has_it : Has (after_claim v q) q.context.thread (bare q) = set_here v.packages q.context.thread (Some (bare q)) (omega (arith, r.placed.sized id v at live)) in
-      let has_locks : (i : ℕ) (l : LockView) → locked_in q i ≡ Some l → HasLock (after_claim v q) i (kept l) = λ i l e. add_all-has v.locks q.context.locks i l
+      let has_it : Has (after_claim v word q) q.context.thread (bare q) = set_here v.packages q.context.thread (Some (bare q)) (omega (arith, r.placed.sized id v at live)) in
+      let has_locks : (i : ℕ) (l : LockView) → locked_in q i ≡ Some l → HasLock (after_claim v word q) i (kept l) = λ i l e. add_all-has v.locks q.context.locks i l
       (let p = r.locks_placed.packed t q i l below h.slot e in let b = (there r.told.segments i (kept l) (kept l) p.1).0 in omega (arith, wide, r.told.law.all_states)) e in
       record {
         now = refl;
@@ -123,10 +125,10 @@ module _ (k : HallTerms) where
         settled = ap (λ (z : PackageView). z.pending) h.same ∙ after.settled;
         order = h.order;
         fits = h.fits.fits;
-        came = package_came v q has_it has_locks
+        came = package_came v word q has_it has_locks
             (λ p' has. some-ne-none id (sym (r.placed.owned id v q.context.thread p' at has).0 ∙ (ap r.placed.holder thread ∙ is_home)))
             (λ i l e l' has. out_inside id t (r.locks_placed.spot i) (r.locks_placed.owned id v i l' at has).0 (r.locks_placed.packed t q i l below h.slot e).0);
-        called = no_call_claimed v q;
+        called = called_claimed v word q;
         pinned = λ e. subst (λ (z : ℕ). get_elem? (set v.pinned z (is_pinned q)) t ≡ some (is_pinned q)) (sym thread)
             (set_here v.pinned t (is_pinned q) (let n = (r.passes id v at).sized live in omega (arith, n, below))) ∙ ap (λ (z : Bool). some z) e;
       }
@@ -193,11 +195,11 @@ module _ (k : HallTerms) where
               held = λ e. ⊎_elim (λ (z : (w.open_slot ≡ Some t) × (v.open_slot ≡ None) × (b ≡ none)). here z.2) (λ (z : (w.open_slot ≡ None) × (v.open_slot ≡ Some t) × (b ≡ some None)). absurd (clash w.open_slot t z.0 e)) hands;
             })
             (λ p' has'. (refl, o.2 ∙ ap (λ (z : PackageView). some z) (same_at (get_elem? v.packages t) p p' has (sym (ap (λ (z : Knows). get_elem? z.packages t) same) ∙ has'))));
-        locks_placed = locks_stay (threads k) (locks k) r.told.segments s.words s.words s.homes (set s.homes t b) s.views id v w at (λ i. refl) (λ i. set_else s.homes t (threads k + i) b (λ e. omega arith))
+        locks_placed = locks_stay (threads k) (locks k) r.told.segments s.words s.words s.homes (set s.homes t b) s.views id v w at (λ i b. refl) (λ i. set_else s.homes t (threads k + i) b (λ e. omega arith))
             (λ u q _ e. full_still s.homes t a b slot full u q e) (λ u q _ e. full_back s.homes t b full' u q e) (ap (λ (z : Knows). z.locks) same) (ap (λ (z : Knows). z.spent) same)
             (λ i e. absurd (to (threads k + i) (λ e. omega arith) e)) (λ i e. absurd (back (threads k + i) (λ e. omega arith) e)) r.locks_placed;
-        passes = passes_stay k.image.value k.workers r.told.history r.told.history s.words s.words (λ b e. e) (λ u e. e) (λ e. e) s.views id w r.passes
-            (pass_same k.image.value k.workers r.told.history r.told.history s.words s.words (λ b e. e) (λ u e. e) (λ e. e) v w old (ap (λ (z : Knows). z.worker) same, ap (λ (z : Knows). z.spent) same, ap (λ (z : Knows). z.image) same, ap (λ (z : Knows). length z.pinned) same)
+        passes = passes_stay k.image.value k.workers r.told.history r.told.history s.words s.words (λ b e. e) (λ u b e. e) (λ e. e) s.views id w r.passes
+            (pass_same k.image.value k.workers r.told.history r.told.history s.words s.words (λ b e. e) (λ u b e. e) (λ e. e) v w old (ap (λ (z : Knows). z.worker) same, ap (λ (z : Knows). z.spent) same, ap (λ (z : Knows). z.image) same, ap (λ (z : Knows). length z.pinned) same)
             (ap (λ (z : Knows). z.joined) same) (ap (λ (z : Knows). z.sealed) same) (ap (λ (z : Knows). z.calls) same) (ap (λ (z : Knows). z.pinned) same));
         stop = λ e. stop_stays s.views id v w at (λ i e. (i, ap (λ (z : Knows). get_elem? z.calls i) same ∙ e)) (r.stop e);
         apart = apart_stays s.views id v w at record { worker = ap (λ (z : Knows). z.worker) same; maker = ap (λ (z : Knows). z.maker) same; made = ap (λ (z : Knows). z.made) same; spent = ap (λ (z : Knows). z.spent) same; joined = ap (λ (z : Knows). z.joined) same } live r.apart;

@@ -1,7 +1,7 @@
 -- How a hall opens, and how its passes are dealt.
 use Rattle.std.proofs.Common.{◌≡◌, ◌≢◌, ℕ, zero, suc, ◌+◌, ◌-◌, ◌*◌, ◌<◌, ◌≤◌, ◌||◌, true, false, List, [], ◌∷◌, ◌++◌, length, map, replicate, sym, refl, ap, ◌∙◌, subst, ⊎_elim, arith, Option, Some, None, slice_index, length-append}
 use Rattle.tc_hall.proofs.Vocabulary.{AreDealt, AreStocked, Block, Cargo, IsInLimits, IsMaker, IsPackageAfter, IsPass, KeptHall, Knows, Lawful, Lock, LockView, Package, PackageView, PassView, STOP, Shown, HallTerms, Thread, bare, clean, dealt, fits_granted, fresh, get_elem?, grants_adopted, home, is_pinned, is_running, kept, last_by, last_of, length-map, length-replicate}
-use Rattle.tc_hall.proofs.Vocabulary.{locked_in, locks, none, opening, slot_word, some, some-injective, some-ne-none, thread_in, threads, was_cut}
+use Rattle.tc_hall.proofs.Vocabulary.{locked_in, locks, none, opening, slot_word, some, some-injective, some-ne-none, thread_in, threads, was_cut, words_of}
 use Rattle.std.specs.List.{fold}
 use Rattle.std.proofs.lemmas.List.{get_or-replicate, map-append}
 use mathlib.Core.Logic.{dite}
@@ -88,7 +88,7 @@ module _ (k : HallTerms) where
   first_is zero v e = (refl, some-injective (first_view k) v e)
   first_is (suc id) v e = absurd (some-ne-none v (sym e))
 
-  pub opens : (ws : List ℕ) (slots : List (Option Cargo)) → IsInLimits k → AreStocked k.image.value (threads k) (locks k) k.fuel k.limit slots → ws ≡ replicate (slot_word (threads k + locks k)) 0 → KeptHall k (opening ws slots (first_view k))
+  pub opens : (ws : List ℕ) (slots : List (Option Cargo)) → IsInLimits k → AreStocked k.image.value (threads k) (locks k) k.fuel k.limit slots → ws ≡ replicate (words_of k) 0 → KeptHall k (opening ws slots (first_view k))
   opens ws slots limits ready zeros =
       let n : ℕ = threads k in
       let m : ℕ = locks k in
@@ -96,7 +96,7 @@ module _ (k : HallTerms) where
       let first : (t : ℕ) → t < n → PackageView = λ t h. bare (whole t h) in
       let places : List PackageView = gathered n first in
       let segments : List LockView = tabled (λ i. fresh_state k.image.value i k.limit) m in
-      let zero_at : (i : ℕ) → i < slot_word (n + m) → slice_index ws i ≡ 0 = λ i h. ap (λ (l : List ℕ). slice_index l i) zeros ∙ get_or-replicate (slot_word (n + m)) i 0 0 h in
+      let zero_at : (i : ℕ) → i < words_of k → slice_index ws i ≡ 0 = λ i h. ap (λ (l : List ℕ). slice_index l i) zeros ∙ get_or-replicate (words_of k) i 0 0 h in
       let long : length places ≡ n = gathered-length n first in
       record {
         told = record {
@@ -114,7 +114,7 @@ module _ (k : HallTerms) where
           workers = λ i b e. absurd (some-ne-none b (sym e));
           delegates = record { handed = λ w. tt; runs_on = λ w. tt; stays = λ t. tt };
         };
-        words = ap (λ (l : List ℕ). length l) zeros ∙ length-replicate (slot_word (n + m)) 0;
+        words = ap (λ (l : List ℕ). length l) zeros ∙ length-replicate (words_of k) 0;
         slots = length-map slots some ∙ ready.count;
         clock = zero_at 0 (omega arith);
         placed = record {

@@ -1,7 +1,6 @@
 -- How the effects on the view change what is out.
 use Rattle.std.proofs.Common.{◌≡◌, ℕ, zero, suc, ◌==◌, if◌then◌else◌, List, [], ◌∷◌, set, get_or, Option, Some, None, refl, sym, ap, ◌∙◌, ⊎_elim, get_or-set_other, Bool}
-use Rattle.tc_hall.proofs.Vocabulary.{Block, Called, Has, HasLock, Knows, LockView, PackageView, Place, add_all, after_claim, after_free, after_put, after_seal, after_take, bare, get_elem?, kept, lock_in, locked_in, option_map, outs, remove_all, sealed_as, some, some-injective, some-ne-none, with_journal, with_seal}
-use Rattle.std.proofs.lemmas.List.{append-nil}
+use Rattle.tc_hall.proofs.Vocabulary.{Take, Block, Called, Has, HasLock, Knows, LockView, PackageView, Place, add_all, after_claim, after_free, after_put, after_seal, after_take, bare, claim_call, get_elem?, kept, lock_in, locked_in, option_map, outs, remove_all, sealed_as, some, some-injective, some-ne-none, with_journal, with_seal}
 use Rattle.std.proofs.lemmas.Bool.Decides.{eqb_tells}
 use Rattle.tc_context.proofs.Running.{sealed_at}
 use Rattle.tc_hall.specs.Outs.{Outs, erase, keep, unless, Pack, Loose, IsOut, CameOut}
@@ -97,11 +96,11 @@ package_out v q has has_locks = record {
   locks = λ i l e. kept_there v.locks (locked_in q i) i l (has_locks i) e;
 }
 
-pub package_came : (v : Knows) (q : PackageView) → Has (after_claim v q) q.context.thread (bare q) → ((i : ℕ) (l : LockView) → locked_in q i ≡ Some l → HasLock (after_claim v q) i (kept l))
-    → ((p : PackageView) → Has v q.context.thread p → ⊥) → ((i : ℕ) (l : LockView) → locked_in q i ≡ Some l → (k : LockView) → HasLock v i k → ⊥) → CameOut (Pack q) v (after_claim v q)
-package_came v q has has_locks new new_locks = record {
-  out = package_out (after_claim v q) q has has_locks;
-  before = same_outs (erase (outs (after_claim v q)) (Pack q)) (outs v)
+pub package_came : (v : Knows) (word : ℕ) (q : PackageView) → Has (after_claim v word q) q.context.thread (bare q) → ((i : ℕ) (l : LockView) → locked_in q i ≡ Some l → HasLock (after_claim v word q) i (kept l))
+    → ((p : PackageView) → Has v q.context.thread p → ⊥) → ((i : ℕ) (l : LockView) → locked_in q i ≡ Some l → (k : LockView) → HasLock v i k → ⊥) → CameOut (Pack q) v (after_claim v word q)
+package_came v word q has has_locks new new_locks = record {
+  out = package_out (after_claim v word q) q has has_locks;
+  before = same_outs (erase (outs (after_claim v word q)) (Pack q)) (outs v)
       (λ u. filled v.packages q.context.thread u (bare q) (bare q) (none_there v.packages q.context.thread new))
       (λ i. added v.locks q.context.locks i (λ l e. none_there v.locks i (new_locks i l e)));
 }
@@ -148,9 +147,8 @@ seal_outs v b n q =
     locks xs slots i None f e = added xs slots i (λ l is. absurd (clash (lock_in slots i) l e is))
     locks xs slots i (Some l) f e = ap (λ z. unless (keep z) (get_or (add_all xs slots) i None)) e
 
--- no call was added
-pub no_call_claimed : (v : Knows) (q : PackageView) → Called [] v (after_claim v q)
-no_call_claimed v q = record { image = refl; worker = refl; sealed = refl; joined = refl; calls = sym (append-nil v.calls) }
+pub called_claimed : (v : Knows) (word : ℕ) (q : PackageView) → Called (claim_call q word ∷ []) v (after_claim v word q)
+called_claimed v word q = record { image = refl; worker = refl; sealed = refl; joined = refl; calls = refl }
 
-pub no_call_taken : (v : Knows) (l : LockView) → Called [] v (after_take v l)
-no_call_taken v l = record { image = refl; worker = refl; sealed = refl; joined = refl; calls = sym (append-nil v.calls) }
+pub called_taken : (v : Knows) (l : LockView) → Called (Take l.number ∷ []) v (after_take v l)
+called_taken v l = record { image = refl; worker = refl; sealed = refl; joined = refl; calls = refl }

@@ -312,28 +312,28 @@ module _ (n m : ℕ) (segments : List LockView) (ws ws' : List ℕ) (hs hs' : Ho
 
 -- no lock moves, and no package with locks in it
 module _ (n m : ℕ) (segments : List LockView) (ws ws' : List ℕ) (hs hs' : Homes) (vs : List Knows) (id : ℕ) (v w : Knows) (at : get_elem? vs id ≡ some v)
-    (words : (i : ℕ) → slice_index ws' (slot_word (n + i)) ≡ slice_index ws (slot_word (n + i))) (homes : (i : ℕ) → get_elem? hs' (n + i) ≡ get_elem? hs (n + i))
+    (words : (i : ℕ) → i < length segments → slice_index ws' (slot_word (n + i)) ≡ slice_index ws (slot_word (n + i))) (homes : (i : ℕ) → get_elem? hs' (n + i) ≡ get_elem? hs (n + i))
     (full : (t : ℕ) (q : PackageView) → t < n → get_elem? hs t ≡ some (some (Some (Package q))) → get_elem? hs' t ≡ some (some (Some (Package q))))
     (full_back : (t : ℕ) (q : PackageView) → t < n → get_elem? hs' t ≡ some (some (Some (Package q))) → get_elem? hs t ≡ some (some (Some (Package q))))
     (now : w.locks ≡ v.locks) (spent : w.spent ≡ v.spent) (open_slot : (i : ℕ) → v.open_slot ≡ Some (n + i) → w.open_slot ≡ Some (n + i)) (back : (i : ℕ) → w.open_slot ≡ Some (n + i) → v.open_slot ≡ Some (n + i)) where
-  lies_still : (i : ℕ) (l : LockView) (s : Spot) → LiesLock n ws hs vs i l s → LiesLock n ws' hs' (set vs id w) i l s
-  lies_still i l home o = record { segment = o.segment; slot = homes i ∙ o.slot; same = o.same; word = words i ∙ o.word; rests = o.rests }
-  lies_still i l (inside t) o = record { below = o.below; context = o.context; slot = full t o.context o.below o.slot; segment = o.segment; has = o.has; same = o.same; word = words i ∙ o.word; empty = homes i ∙ o.empty }
-  lies_still i l (out j) o = dite (ℕ_discrete j id)
+  lies_still : (i : ℕ) (l : LockView) → i < length segments → (s : Spot) → LiesLock n ws hs vs i l s → LiesLock n ws' hs' (set vs id w) i l s
+  lies_still i l b home o = record { segment = o.segment; slot = homes i ∙ o.slot; same = o.same; word = words i b ∙ o.word; rests = o.rests }
+  lies_still i l b (inside t) o = record { below = o.below; context = o.context; slot = full t o.context o.below o.slot; segment = o.segment; has = o.has; same = o.same; word = words i b ∙ o.word; empty = homes i ∙ o.empty }
+  lies_still i l b (out j) o = dite (ℕ_discrete j id)
       (λ (is : j ≡ id). let same : v ≡ o.view = some-injective v o.view (sym at ∙ (ap (get_elem? vs) (sym is) ∙ o.pass)) in record {
         view = w;
         pass = ap (get_elem? (set vs id w)) is ∙ set_here vs id w (there vs id v v at).0;
         has = ap (λ (l : List (Option LockView)). get_elem? l i) now ∙ (ap (λ (z : Knows). get_elem? z.locks i) same ∙ o.has);
-        word = words i ∙ o.word;
+        word = words i b ∙ o.word;
         empty = λ free. homes i ∙ o.empty (λ h. free (open_slot i (ap (λ (z : Knows). z.open_slot) same ∙ h)));
         held = λ h. homes i ∙ o.held (ap (λ (z : Knows). z.open_slot) (sym same) ∙ back i h);
       })
-      (λ (ne : j ≢ id). record { view = o.view; pass = set_else vs id j w ne ∙ o.pass; has = o.has; word = words i ∙ o.word; empty = λ free. homes i ∙ o.empty free; held = λ h. homes i ∙ o.held h })
+      (λ (ne : j ≢ id). record { view = o.view; pass = set_else vs id j w ne ∙ o.pass; has = o.has; word = words i b ∙ o.word; empty = λ free. homes i ∙ o.empty free; held = λ h. homes i ∙ o.held h })
 
   pub locks_stay : AreLocksPlaced n m segments ws hs vs → AreLocksPlaced n m segments ws' hs' (set vs id w)
   locks_stay lp = record {
     spot = lp.spot;
-    each = λ i l e. lies_still i l (lp.spot i) (lp.each i l e);
+    each = λ i l e. lies_still i l (there segments i l l e).0 (lp.spot i) (lp.each i l e);
     sized = λ j x e live. ⊎_elim
         (λ (o : (j ≡ id) × (w ≡ x)). ap (λ (z : Knows). length z.locks) (sym o.1) ∙ (ap (λ (l : List (Option LockView)). length l) now ∙ lp.sized id v at (sym spent ∙ (ap (λ (z : Knows). z.spent) o.1 ∙ live))))
         (λ (o : (j ≢ id) × (get_elem? vs j ≡ some x)). lp.sized j x o.1 live) (at_set vs id j w x e);

@@ -1,6 +1,7 @@
 -- The lists of each live pass are its part of the order.
 use Rattle.std.proofs.Common.{◌≡◌, ◌≢◌, ℕ, zero, suc, ◌≤◌, ◌==◌, Bool, true, false, List, [], ◌∷◌, ◌++◌, length, set, sym, refl, ap, ◌∙◌, subst, ⊎_elim, arith, length-set, length-append, if◌then◌else◌}
-use Rattle.tc_hall.proofs.Vocabulary.{Free, Hall, IsLegal, IsOpening, Knows, Look, Made, MayDo, Operation, Stop, Stopped, HallTerms, after_operation, claim, commit, dealt, free, fresh, get_elem?, gone, hall_after, join, lay, look, merged, miss, put, put_call, reach, sealed_block, some, some-injective, some-ne-none, split, starting, stop, stopped, take}
+use Rattle.tc_hall.proofs.Vocabulary.{Take, Free, Line, line, Hall, IsLegal, IsOpening, Knows, Look, Made, MayDo, Operation, Stop, Stopped, HallTerms, after_operation, claim, claim_call, commit, dealt, free, fresh, get_elem?, gone, hall_after, join, lay, look, merged, miss, put, put_call, reach, sealed_block, some, some-injective, some-ne-none, split, starting, stop, stopped, take}
+use Rattle.tc_hall.specs.declared.board.PassCall.TheVariants.{Commit}
 use Rattle.std.proofs.lemmas.Bool.Decides.{nat_tests}
 use Rattle.atomic_table.proofs.Lists.{at_set}
 use Rattle.tc_mutex_spec.proofs.ListLaws.{there}
@@ -38,7 +39,7 @@ views_grow k s id v (join other w) = twice s.views id other (merged v w) gone
   where
     twice : (vs : List Knows) (id other : ℕ) (w x : Knows) → length vs ≤ length (set (set vs id w) other x)
     twice vs id other w x = let l = length-set vs id w in let m = length-set (set vs id w) other x in omega arith
-views_grow k s id v (claim t q) = as_many s.views id _
+views_grow k s id v (claim t word q) = as_many s.views id _
 views_grow k s id v (take i l) = as_many s.views id _
 views_grow k s id v (miss word wanted found) = as_many s.views id _
 views_grow k s id v (commit stamp b q) = as_many s.views id _
@@ -47,6 +48,7 @@ views_grow k s id v (free l) = as_many s.views id _
 views_grow k s id v (look t found) = as_many s.views id _
 views_grow k s id v (stopped found) = as_many s.views id _
 views_grow k s id v stop = as_many s.views id _
+views_grow k s id v (line i c) = as_many s.views id _
 views_grow k s id v (reach slot) = as_many s.views id _
 views_grow k s id v (lay slot) = as_many s.views id _
 
@@ -104,15 +106,16 @@ module _ (k : HallTerms) (s : Hall) (before : List Made) (id : ℕ) (v : Knows) 
       (at_set (set s.views id (merged v w)) other j gone x e)
 
   part_after : (o : Operation) → MayDo k s id v o → Goal o
-  part_after (claim t q) may = replaced (claim t q) _ record { calls = mine.calls; sealed = mine.sealed; missed = mine.missed; claimed = ap (λ z. z ++ q ∷ []) mine.claimed; taken = mine.taken }
-  part_after (take i l) may = replaced (take i l) _ record { calls = mine.calls; sealed = mine.sealed; missed = mine.missed; claimed = mine.claimed; taken = ap (λ z. z ++ l ∷ []) mine.taken }
+  part_after (claim t word q) may = replaced (claim t word q) _ record { calls = ap (λ z. z ++ claim_call q word ∷ []) mine.calls; sealed = mine.sealed; missed = mine.missed; claimed = ap (λ z. z ++ q ∷ []) mine.claimed; taken = mine.taken }
+  part_after (take i l) may = replaced (take i l) _ record { calls = ap (λ z. z ++ Take l.number ∷ []) mine.calls; sealed = mine.sealed; missed = mine.missed; claimed = mine.claimed; taken = ap (λ z. z ++ l ∷ []) mine.taken }
   part_after (miss word wanted found) may = replaced (miss word wanted found) _ record { calls = mine.calls; sealed = mine.sealed; missed = ap (λ z. z ++ record { word = word; found = found } ∷ []) mine.missed; claimed = mine.claimed; taken = mine.taken }
-  part_after (commit stamp b q) may = replaced (commit stamp b q) _ record { calls = mine.calls; sealed = ap (λ z. z ++ sealed_block stamp v.worker b ∷ []) mine.sealed; missed = mine.missed; claimed = mine.claimed; taken = mine.taken }
+  part_after (commit stamp b q) may = replaced (commit stamp b q) _ record { calls = ap (λ z. z ++ Commit q.context.thread stamp ∷ []) mine.calls; sealed = ap (λ z. z ++ sealed_block stamp v.worker b ∷ []) mine.sealed; missed = mine.missed; claimed = mine.claimed; taken = mine.taken }
   part_after (put q place) may = replaced (put q place) _ record { calls = ap (λ z. z ++ put_call q place ∷ []) mine.calls; sealed = mine.sealed; missed = mine.missed; claimed = mine.claimed; taken = mine.taken }
   part_after (free l) may = replaced (free l) _ record { calls = ap (λ z. z ++ Free l.number ∷ []) mine.calls; sealed = mine.sealed; missed = mine.missed; claimed = mine.claimed; taken = mine.taken }
   part_after (look t found) may = replaced (look t found) _ record { calls = ap (λ z. z ++ Look t found ∷ []) mine.calls; sealed = mine.sealed; missed = mine.missed; claimed = mine.claimed; taken = mine.taken }
   part_after (stopped found) may = replaced (stopped found) _ record { calls = ap (λ z. z ++ Stopped found ∷ []) mine.calls; sealed = mine.sealed; missed = mine.missed; claimed = mine.claimed; taken = mine.taken }
   part_after stop may = replaced stop _ record { calls = ap (λ z. z ++ Stop ∷ []) mine.calls; sealed = mine.sealed; missed = mine.missed; claimed = mine.claimed; taken = mine.taken }
+  part_after (line i c) may = replaced (line i c) _ record { calls = ap (λ z. z ++ Line i c ∷ []) mine.calls; sealed = mine.sealed; missed = mine.missed; claimed = mine.claimed; taken = mine.taken }
   part_after (reach slot) may = replaced (reach slot) _ record { calls = mine.calls; sealed = mine.sealed; missed = mine.missed; claimed = mine.claimed; taken = mine.taken }
   part_after (lay slot) may = replaced (lay slot) _ record { calls = mine.calls; sealed = mine.sealed; missed = mine.missed; claimed = mine.claimed; taken = mine.taken }
   part_after split may = made_another

@@ -1,6 +1,7 @@
 -- What stays true of the passes when one of them has a new view.
 use Rattle.std.proofs.Common.{◌≡◌, ◌≢◌, ◌⊎◌, ℕ, ◌<◌, Bool, true, false, List, length, set, sym, refl, ap, ◌∙◌, subst, ⊎_elim, inl, slice_index, get_or-set_other}
-use Rattle.tc_hall.proofs.Vocabulary.{AreApart, Block, PassCall, Free, HasStopped, IsPass, Knows, Look, Put, STOP, Shown, Stop, Stopped, get_elem?, slot_word, some, some-injective}
+use Rattle.tc_hall.proofs.Vocabulary.{Take, AreApart, Block, PassCall, Free, Line, HasStopped, IsPass, Knows, Look, Put, STOP, Shown, Stop, Stopped, get_elem?, slot_word, some, some-injective}
+use Rattle.tc_hall.specs.declared.board.PassCall.TheVariants.{Claim, Commit}
 use mathlib.Core.Logic.{dite}
 use native.Mathlib.Decide.{ℕ_discrete}
 use Rattle.atomic_table.proofs.Lists.{at_set, set_here, set_else}
@@ -42,24 +43,28 @@ module _ (vs : List Knows) (id : ℕ) (v w : Knows) (at : get_elem? vs id ≡ so
       record { id = id; view = w; pass = set_here vs id w (there vs id v v at).0; place = g.0; call = g.1 })
       (λ (ne : h.id ≢ id). record { id = h.id; view = h.view; pass = set_else vs id h.id w ne ∙ h.pass; place = h.place; call = h.call })
 
--- what a call says of the words holds
-abbrev pub IsTrueCall : List ℕ → PassCall → Type 0
-IsTrueCall ws (Put t place numbers given turns) = Unit {0}
-IsTrueCall ws (Free i) = Unit {0}
-IsTrueCall ws (Look t found) = found ≡ 2 → slice_index ws (slot_word t) ≡ 2
-IsTrueCall ws Stop = slice_index ws STOP ≡ 1
-IsTrueCall ws (Stopped found) = found ≡ 1 → slice_index ws STOP ≡ 1
+-- what a call says of the words of a hall of n threads holds
+abbrev pub IsTrueCall : ℕ → List ℕ → PassCall → Type 0
+IsTrueCall n ws (Put t place numbers given turns) = Unit {0}
+IsTrueCall n ws (Claim t place) = Unit {0}
+IsTrueCall n ws (Commit t stamp) = Unit {0}
+IsTrueCall n ws (Take i) = Unit {0}
+IsTrueCall n ws (Free i) = Unit {0}
+IsTrueCall n ws (Line i c) = Unit {0}
+IsTrueCall n ws (Look t found) = t < n → found ≡ 2 → slice_index ws (slot_word t) ≡ 2
+IsTrueCall n ws Stop = slice_index ws STOP ≡ 1
+IsTrueCall n ws (Stopped found) = found ≡ 1 → slice_index ws STOP ≡ 1
 
 -- the pass of the same worker, in the same hall, which says of as many threads whether their packages fitted
 abbrev pub IsSameSeat : Knows → Knows → Type 0
 IsSameSeat v w = (w.worker ≡ v.worker) × (w.spent ≡ v.spent) × (w.image ≡ v.image) × (length w.pinned ≡ length v.pinned)
 
 module _ (image : Shown) (workers : ℕ) (h h' : List Block) (ws ws' : List ℕ) (grows : (b : Block) → get_elem? h b.stamp ≡ some b → get_elem? h' b.stamp ≡ some b)
-    (done : (t : ℕ) → slice_index ws (slot_word t) ≡ 2 → slice_index ws' (slot_word t) ≡ 2) (stops : slice_index ws STOP ≡ 1 → slice_index ws' STOP ≡ 1) where
+    (done : (t : ℕ) → t < length image.entries → slice_index ws (slot_word t) ≡ 2 → slice_index ws' (slot_word t) ≡ 2) (stops : slice_index ws STOP ≡ 1 → slice_index ws' STOP ≡ 1) where
   pub pass_kept : (v w : Knows) → IsPass image workers h ws v → IsSameSeat v w
       → ((i u : ℕ) → get_elem? w.joined i ≡ some u → (get_elem? v.joined i ≡ some u) ⊎ (u < workers))
       → ((i : ℕ) (b : Block) → get_elem? w.sealed i ≡ some b → (get_elem? v.sealed i ≡ some b) ⊎ (get_elem? h' b.stamp ≡ some b))
-      → ((i : ℕ) (c : PassCall) → get_elem? w.calls i ≡ some c → (get_elem? v.calls i ≡ some c) ⊎ IsTrueCall ws' c)
+      → ((i : ℕ) (c : PassCall) → get_elem? w.calls i ≡ some c → (get_elem? v.calls i ≡ some c) ⊎ IsTrueCall (length image.entries) ws' c)
       → ((t : ℕ) → get_elem? w.pinned t ≡ some true → (get_elem? v.pinned t ≡ some true) ⊎ (slice_index ws' STOP ≡ 1))
       → IsPass image workers h' ws' w
   pass_kept v w old worker joined sealed calls pinned = record {
@@ -67,9 +72,9 @@ module _ (image : Shown) (workers : ℕ) (h h' : List Block) (ws ws' : List ℕ)
     worker = subst (λ (z : ℕ). z < workers) (sym worker.0) old.worker;
     joined = λ i u e. ⊎_elim (λ o. old.joined i u o) (λ o. o) (joined i u e);
     sealed = λ i b e. ⊎_elim (λ o. grows b (old.sealed i b o)) (λ o. o) (sealed i b e);
-    done = λ i t e. ⊎_elim (λ o. done t (old.done i t o)) (λ (o : IsTrueCall ws' (Look t 2)). o refl) (calls i (Look t 2) e);
-    stop = λ i e. ⊎_elim (λ o. stops (old.stop i o)) (λ (o : IsTrueCall ws' Stop). o) (calls i Stop e);
-    stopped = λ i e. ⊎_elim (λ o. stops (old.stopped i o)) (λ (o : IsTrueCall ws' (Stopped 1)). o refl) (calls i (Stopped 1) e);
+    done = λ i t b e. ⊎_elim (λ o. done t b (old.done i t b o)) (λ (o : IsTrueCall (length image.entries) ws' (Look t 2)). o b refl) (calls i (Look t 2) e);
+    stop = λ i e. ⊎_elim (λ o. stops (old.stop i o)) (λ (o : IsTrueCall (length image.entries) ws' Stop). o) (calls i Stop e);
+    stopped = λ i e. ⊎_elim (λ o. stops (old.stopped i o)) (λ (o : IsTrueCall (length image.entries) ws' (Stopped 1)). o refl) (calls i (Stopped 1) e);
     pinned = λ t e. ⊎_elim (λ o. stops (old.pinned t o)) (λ o. o) (pinned t e);
     sized = λ live. worker.3 ∙ old.sized (sym worker.1 ∙ live);
   }
@@ -89,8 +94,8 @@ module _ (image : Shown) (workers : ℕ) (h h' : List Block) (ws ws' : List ℕ)
       (at_set vs id j w x is)
 
 -- a word that isn't 2 changes
-pub done_still : (ws : List ℕ) (j new : ℕ) → slice_index ws j ≢ 2 → (u : ℕ) → slice_index ws (slot_word u) ≡ 2 → slice_index (set ws j new) (slot_word u) ≡ 2
-done_still ws j new ne u e = get_or-set_other ws j (slot_word u) new 0 (λ (z : slot_word u ≡ j). ne (ap (λ (x : ℕ). slice_index ws x) (sym z) ∙ e)) ∙ e
+pub done_still : (n : ℕ) (ws : List ℕ) (j new : ℕ) → slice_index ws j ≢ 2 → (u : ℕ) → u < n → slice_index ws (slot_word u) ≡ 2 → slice_index (set ws j new) (slot_word u) ≡ 2
+done_still n ws j new ne u b e = get_or-set_other ws j (slot_word u) new 0 (λ (z : slot_word u ≡ j). ne (ap (λ (x : ℕ). slice_index ws x) (sym z) ∙ e)) ∙ e
 
 pub stops_still : (ws : List ℕ) (j new : ℕ) → j ≢ STOP → slice_index ws STOP ≡ 1 → slice_index (set ws j new) STOP ≡ 1
 stops_still ws j new ne e = get_or-set_other ws j STOP new 0 (λ z. ne (sym z)) ∙ e

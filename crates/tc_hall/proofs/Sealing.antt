@@ -1,8 +1,9 @@
 -- `commit` keeps the rule.
 use Rattle.std.proofs.Common.{◌≡◌, ◌≢◌, ◌⊎◌, ℕ, zero, suc, ◌+◌, ◌*◌, ◌%◌, ◌^◌, ◌<◌, ◌≤◌, ◌==◌, Bool, true, false, List, [], ◌∷◌, ◌++◌, length, set, sym, refl, ap, ◌∙◌, subst, ⊎_elim, inl, inr, arith, Some, None, is_some, slice_index, length-set, length-append, get_or-set_other, get_or-set_same, if◌then◌else◌}
 use Rattle.tc_hall.proofs.Vocabulary.{AreTogether, Block, CLOCK, DidRun, DidSeal, IsHandedOver, IsPass, KeptHall, Knows, Lawful, LockView, MAX_THREADS, PackageView, Seals, Shown, HallTerms, after_seal, bare, end_after, get_elem?, has, keeps, kept, last_of, lock_in, locked_in, locks, none, of_thread, of_worker, sealed_as, sealed_block, slot_word, some, some-injective, some-ne-none}
-use Rattle.tc_hall.proofs.Vocabulary.{stepped, threads, with_journal, with_seal, with_states}
+use Rattle.tc_hall.proofs.Vocabulary.{Stop, stepped, threads, with_journal, with_seal, with_states}
 use Rattle.std.specs.Prelude.{filter, Option}
+use Rattle.tc_hall.specs.declared.board.PassCall.TheVariants.{Commit}
 use Rattle.std.proofs.lemmas.Nat.{mul-le}
 use Rattle.atomic_table.proofs.Lists.{set_here, set_else, at_longer, at_last}
 use Rattle.tc_journal.specs.Handing.{IsRunOn, IsStillAt}
@@ -21,7 +22,7 @@ use Rattle.tc_hall.proofs.Placing.{moves}
 use Rattle.tc_hall.proofs.Packing.{seals_locks}
 use Rattle.tc_hall.proofs.LockLists.{add_all-has, with_states-has}
 use Rattle.tc_hall.proofs.Listing.{listed_seals}
-use Rattle.tc_hall.proofs.Ranks.{apart_stays, stop_stays, pass_kept, passes_stay, stops_still, stops_back}
+use Rattle.tc_hall.proofs.Ranks.{apart_stays, stop_stays, IsTrueCall, pass_kept, passes_stay, stops_still, stops_back}
 use Rattle.tc_hall.proofs.Moves.{St, is_out}
 use Rattle.tc_hall.proofs.Cases.{same_at}
 use Rattle.tc_lemmas.proofs.Lists.{at_end}
@@ -109,7 +110,7 @@ module _ (k : HallTerms) (s : St k) (r : KeptHall k s) (id : ℕ) (v : Knows) (q
       let most : threads k * (k.fuel + 1) ≤ MAX_THREADS * 65537 = mul-le (threads k) (k.fuel + 1) MAX_THREADS 65537 r.told.limits.threads (omega (arith, r.told.limits.fuel)) in
       let count : length (h ++ b ∷ []) ≡ length h + 1 = length-append h (b ∷ []) in
       let bound = law.bound in let clock = r.clock in
-      let done : (u : ℕ) → slice_index s.words (slot_word u) ≡ 2 → slice_index (set s.words CLOCK new) (slot_word u) ≡ 2 = λ u e. words' u ∙ e in
+      let done : (u : ℕ) → u < threads k → slice_index s.words (slot_word u) ≡ 2 → slice_index (set s.words CLOCK new) (slot_word u) ≡ 2 = λ u b e. words' u ∙ e in
       let stops = stops_still s.words CLOCK new (λ e. omega arith) in
       let grows : (c : Block) → get_elem? h c.stamp ≡ some c → get_elem? (h ++ b ∷ []) c.stamp ≡ some c = λ c e. at_longer h (b ∷ []) c.stamp c e in
       record {
@@ -147,8 +148,8 @@ module _ (k : HallTerms) (s : St k) (r : KeptHall k s) (id : ℕ) (v : Knows) (q
         passes = passes_stay k.image.value k.workers h (h ++ b ∷ []) s.words (set s.words CLOCK new) grows done stops s.views id w r.passes
             (pass_kept k.image.value k.workers h (h ++ b ∷ []) s.words (set s.words CLOCK new) grows done stops v w old (refl, refl, refl, refl) (λ i u e. inl e)
             (λ i c e. ⊎_elim (λ z. inl z) (λ (z : (i ≡ length v.sealed) × (b ≡ c)). inr (subst (λ (x : Block). get_elem? (h ++ b ∷ []) x.stamp ≡ some x) z.1 (at_last h b b.stamp (sym r.clock)))) (at_end v.sealed b c i e))
-            (λ i c e. inl e) (λ u e. inl e));
-        stop = λ e. stop_stays s.views id v w at (λ i e. (i, e)) (r.stop (stops_back s.words CLOCK new (λ e. omega arith) e));
+            (λ i c e. ⊎_elim (λ z. inl z) (λ (z : (i ≡ length v.calls) × (Commit t stamp ≡ c)). inr (subst (IsTrueCall (threads k) (set s.words CLOCK new)) z.1 tt)) (at_end v.calls (Commit t stamp) c i e)) (λ u e. inl e));
+        stop = λ e. stop_stays s.views id v w at (λ i h. (i, at_longer v.calls (Commit t stamp ∷ []) i Stop h)) (r.stop (stops_back s.words CLOCK new (λ e. omega arith) e));
         apart = apart_stays s.views id v w at record { worker = refl; maker = refl; made = refl; spent = refl; joined = refl } live r.apart;
         listed = listed_seals h s.views id v w at r.listed b refl live r.apart refl refl refl refl refl;
       }

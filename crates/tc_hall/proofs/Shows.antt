@@ -102,14 +102,14 @@ module _ (k : HallTerms) (s : Hall) (id : ℕ) (v : Knows) (at : get_elem? s.vie
   places_else word new t u below ne is same = same ∙ (was.place u below ∙ ap place_shown (sym (get_or-set_other s.words word (slot_word u) new 0 (λ z. ne (omega arith)))))
 
   -- ---- the package q of the thread t comes to the pass
-  module _ (t : ℕ) (q : PackageView) (below : t < threads k) (thread : q.context.thread ≡ t) (slot : get_elem? s.homes t ≡ some (some (Some (Package q)))) (long : slot_word t < length s.words)
-      (has : Has (after_claim v q) t (bare q)) (has_locks : (i : ℕ) (l : LockView) → locked_in q i ≡ Some l → HasLock (after_claim v q) i (kept l))
+  module _ (t word : ℕ) (q : PackageView) (below : t < threads k) (thread : q.context.thread ≡ t) (slot : get_elem? s.homes t ≡ some (some (Some (Package q)))) (long : slot_word t < length s.words)
+      (has : Has (after_claim v word q) t (bare q)) (has_locks : (i : ℕ) (l : LockView) → locked_in q i ≡ Some l → HasLock (after_claim v word q) i (kept l))
       (moved : IsMoved o o' t (At v.worker)) (comes : (i : ℕ) → o.lies i ≡ packed t → o'.lies i ≡ in_hand v.worker) (stays : (i : ℕ) → o.lies i ≢ packed t → o'.lies i ≡ o.lies i) where
     abbrev w : Knows
-    w = record (after_claim v q) { open_slot = Some t }
+    w = record (after_claim v word q) { open_slot = Some t }
 
     abbrev s' : Hall
-    s' = after s id (claim_effect v t q)
+    s' = after s id (claim_effect v t word q)
 
     claim_place : (u : ℕ) → u < threads k → o'.place u ≡ place_shown (slice_index s'.words (slot_word u))
     claim_place u b = dite (ℕ_discrete u t)
@@ -308,7 +308,7 @@ pub record HadOut (vs vs' : List Knows) : Type 0 where
 abbrev pub Empties : Homes → Homes → Type 0
 Empties hs hs' = (u : ℕ) (x : Cargo) → get_elem? hs' u ≡ some (some (Some x)) → get_elem? hs u ≡ some (some (Some x))
 
-module _ (k : HallTerms) (ws ws' : List ℕ) (hs hs' : Homes) (vs vs' : List Knows) (words : (u : ℕ) → slice_index ws' (slot_word u) ≡ slice_index ws (slot_word u)) (lay : Empties hs hs') (had : HadOut vs vs') (o : Outline) (was : IsShown k record { words = ws; homes = hs; views = vs } o) where
+module _ (k : HallTerms) (ws ws' : List ℕ) (hs hs' : Homes) (vs vs' : List Knows) (words : (u : ℕ) → u < threads k → slice_index ws' (slot_word u) ≡ slice_index ws (slot_word u)) (lay : Empties hs hs') (had : HadOut vs vs') (o : Outline) (was : IsShown k record { words = ws; homes = hs; views = vs } o) where
   still_thread : (u : ℕ) (p : PackageView) → u < threads k → PackageAt record { words = ws'; homes = hs'; views = vs' } u p → ShowsThread o u p
   still_thread u p b (in_slot h) = was.thread u p b (in_slot (lay u (Package p) h))
   still_thread u p b (with_pass j x h has) = let z = had.packages j u x p h has in was.thread u p b (with_pass z.0 z.1 z.2 z.3)
@@ -319,7 +319,7 @@ module _ (k : HallTerms) (ws ws' : List ℕ) (hs hs' : Homes) (vs vs' : List Kno
   still_lock i l y b (lock_with_pass j x h has is) = let z = had.locks j i x l h has in was.lock i l y b (lock_with_pass z.0 z.1 z.2 z.3 (is ∙ ap (λ (c : ℕ). in_hand c) (sym z.4)))
 
   pub still_shown : IsShown k record { words = ws'; homes = hs'; views = vs' } o
-  still_shown = record { place = λ u b. was.place u b ∙ ap place_shown (sym (words u)); thread = still_thread; lock = still_lock }
+  still_shown = record { place = λ u b. was.place u b ∙ ap place_shown (sym (words u b)); thread = still_thread; lock = still_lock }
 
 -- one view changes, but has the same out
 pub had_same : (vs : List Knows) (id : ℕ) (v w : Knows) → get_elem? vs id ≡ some v → w.packages ≡ v.packages → w.locks ≡ v.locks → w.worker ≡ v.worker → HadOut vs (set vs id w)

@@ -6,7 +6,7 @@ use prog.Atomic.{either}
 use Rattle.atomic_table.specs.Table.{step, Act, Valid, carried_after, Allows}
 use Rattle.atomic_table.proofs.Lists.{set_here, set_else, exchanged}
 use Rattle.tc_hall.specs.Steps.{Got, Took, claimed, laid, reached, took_as, put_as, did_free, looked, stopping, saw_stopped, sealed_as}
-use Rattle.tc_hall.proofs.Outs.{lock_came, no_call_taken}
+use Rattle.tc_hall.proofs.Outs.{lock_came, called_taken}
 use Rattle.tc_hall.proofs.Moves.{home_of, is_out, taken, gets}
 use Rattle.tc_hall.proofs.Cases.{clash, home_out}
 use Rattle.tc_hall.proofs.Telling.{place_codes, filled, as_left}
@@ -38,15 +38,15 @@ module _ (k : HallTerms) where
       let h = lies.1 in
       let after : IsPackageAfter k.image.value k.fuel r.told.history t place.0 = r.told.law.packages_after t place.0 place.1 in
       let thread : h.context.context.thread ≡ t = ap (λ (z : PackageView). z.context.thread) h.same ∙ after.follows.number in (
-        taken k v t h.context,
+        taken k v t code h.context,
         takes t (Some (Package h.context)),
         h.slot,
-        subst (λ (z : ℕ). IsOrdered k (stepped s (slot_word t) z id [] (taken k v t h.context) (takes t (Some (Package h.context))))) (sym new_is)
-            (next k s d id v (claim t h.context) at live record { free = idle; below = below; word = subst (IsClaimable k) (sym hit) can; slot = h.slot }),
+        subst (λ (z : ℕ). IsOrdered k (stepped s (slot_word t) z id [] (taken k v t code h.context) (takes t (Some (Package h.context))))) (sym new_is)
+            (next k s d id v (claim t code h.context) at live record { free = idle; below = below; can = can; found = hit; slot = h.slot }),
         (
-          (λ _ u e. subst (λ (z : ℕ × ℕ). Got (Some k) z.1 z.0 (v, []) (taken k v t h.context, (t, Some (Package h.context)) ∷ [])) (λ i. ((let x : t ≡ u = omega arith in x) i, hit i)) (
+          (λ _ u e. subst (λ (z : ℕ × ℕ). Got (Some k) z.1 z.0 (v, []) (taken k v t z.1 h.context, (t, Some (Package h.context)) ∷ [])) (λ i. ((let x : t ≡ u = omega arith in x) i, hit i)) (
             h.context,
-            after_claim v h.context,
+            after_claim v found h.context,
             gets k s r id t v place.0 h at live below place.1 lies.0 thread,
             refl,
             (λ j is. subst (λ (z : HallTerms). IsAsLeft z v h.context) (terms_are k j is) (left_home k s r id t v place.0 h at below place.1 thread)),
@@ -178,7 +178,7 @@ module _ (k : HallTerms) where
                     ended = h.rests;
                   };
                   came = lock_came v l (subst (λ (z : ℕ). HasLock taken z (kept l)) (sym number) here) (λ x has. home_out (r.locks_placed.spot l.number) id (ap r.locks_placed.spot number ∙ lies.0) (r.locks_placed.owned id v l.number x at has).0);
-                  called = no_call_taken v l;
+                  called = called_taken v l;
                 },
                 refl,
                 left_state k s r id i v place.0 h at place.1,

@@ -1,6 +1,6 @@
 -- Each step on a lock keeps the rule.
 use Rattle.std.proofs.Common.{◌≡◌, ◌≢◌, ◌⊎◌, ℕ, ◌+◌, ◌<◌, Bool, true, false, List, [], ◌∷◌, length, set, sym, refl, ap, ◌∙◌, subst, ⊎_elim, inl, inr, arith, Option, Some, None, slice_index, length-set, get_or-set_other, get_or-set_same}
-use Rattle.tc_hall.proofs.Vocabulary.{Block, PassCall, Cargo, Free, HasLock, Homes, IsLockHome, IsLockOut, IsStateAfter, KeptHall, Knows, LiesLock, Lock, LockView, MayFree, Spot, Stop, HallTerms, after_free, after_take, get_elem?, gives, has, home, inside, kept, locks, none, out, slot_word, some, some-injective, some-ne-none, stepped, takes, threads}
+use Rattle.tc_hall.proofs.Vocabulary.{Take, Block, PassCall, Cargo, Free, HasLock, Homes, IsLockHome, IsLockOut, IsStateAfter, KeptHall, Knows, LiesLock, Lock, LockView, MayFree, Spot, Stop, HallTerms, after_free, after_take, get_elem?, gives, has, home, inside, kept, locks, none, out, slot_word, some, some-injective, some-ne-none, stepped, takes, threads}
 use mathlib.Core.Option as maybe
 use lib.Seq.{set-get_or}
 use Rattle.atomic_table.proofs.Lists.{set_here, set_else, at_longer}
@@ -68,7 +68,7 @@ module _ (k : HallTerms) where
   lock_step : (s : St k) (r : KeptHall k s) (id i word : ℕ) (v w : Knows) (a : maybe.Option (Option Cargo)) (to : Spot) → get_elem? s.views id ≡ some v → v.spent ≡ false → i < locks k
       → (r.locks_placed.spot i ≡ home) ⊎ (r.locks_placed.spot i ≡ out id)
       → IsElseLock (threads k) i v w → w.image ≡ v.image → w.worker ≡ v.worker → w.packages ≡ v.packages → w.maker ≡ v.maker → w.made ≡ v.made → w.joined ≡ v.joined → w.pinned ≡ v.pinned → w.sealed ≡ v.sealed
-      → ((j : ℕ) (c : PassCall) → get_elem? w.calls j ≡ some c → (get_elem? v.calls j ≡ some c) ⊎ IsTrueCall (set s.words (slot_word (threads k + i)) word) c)
+      → ((j : ℕ) (c : PassCall) → get_elem? w.calls j ≡ some c → (get_elem? v.calls j ≡ some c) ⊎ IsTrueCall (threads k) (set s.words (slot_word (threads k + i)) word) c)
       → ((j : ℕ) → get_elem? v.calls j ≡ some Stop → (e : ℕ) × (get_elem? w.calls e ≡ some Stop))
       → ((u : ℕ) → u < threads k → v.open_slot ≢ Some u) → ((u : ℕ) → u < threads k → w.open_slot ≢ Some u)
       → slice_index s.words (slot_word (threads k + i)) ≢ 2
@@ -79,7 +79,7 @@ module _ (k : HallTerms) where
       let n : ℕ = threads k in
       let j : ℕ = slot_word (n + i) in
       let ws' : List ℕ = set s.words j word in
-      let done = done_still s.words j word not_two in
+      let done = done_still (threads k) s.words j word not_two in
       let stops = stops_still s.words j word (λ e. omega arith) in
       let old = r.passes id v at in record {
         told = r.told;
@@ -112,7 +112,10 @@ module _ (k : HallTerms) where
       let here : HasLock w i (kept l) = subst (λ (z : ℕ). get_elem? (set v.locks z (Some (kept l))) i ≡ some (Some (kept l))) (sym number) (set_here v.locks i (Some (kept l)) (omega arith)) in
       lock_step s r id i 1 v w none (out id) at live below (inl is_home)
       record { spent = refl; long = length-set v.locks l.number (Some (kept l)); out = λ e ne. set_else v.locks l.number e (Some (kept l)) (λ z. ne (z ∙ number)); open_slot = λ e ne h. absurd (clash v.open_slot (n + e) free h); hand_back = λ e ne h. let z = some_same (n + e) (n + i) h in absurd (ne (omega arith)) }
-      refl refl refl refl refl refl refl refl (λ e c h. inl h) (λ e h. (e, h)) (λ u b h. clash v.open_slot u free h) (λ u b h. let z = some_same u (n + i) h in omega arith) (λ h. let z = hit in omega arith)
+      refl refl refl refl refl refl refl refl
+      (λ e c h. ⊎_elim (λ z. inl z) (λ (z : (e ≡ length v.calls) × (Take l.number ≡ c)). inr (subst (IsTrueCall n (set s.words j 1)) z.1 tt)) (at_end v.calls (Take l.number) c e h))
+      (λ e h. (e, at_longer v.calls (Take l.number ∷ []) e Stop h))
+      (λ u b h. clash v.open_slot u free h) (λ u b h. let z = some_same u (n + i) h in omega arith) (λ h. let z = hit in omega arith)
       (λ l' e. record {
         view = w;
         pass = set_here s.views id w (there s.views id v v at).0;
@@ -136,7 +139,7 @@ module _ (k : HallTerms) where
       lock_step s r id i 0 v w (some (Some (Lock l))) home at live o.0 (inr o.1)
       record { spent = refl; long = length-set v.locks i None; out = λ e ne. set_else v.locks i e None ne; open_slot = λ e ne h. absurd (ne (let z = same_some v.open_slot (n + i) (n + e) open_slot h in omega arith)); hand_back = λ e ne h. absurd (clash None (n + e) refl h) }
       refl refl refl refl refl refl refl refl
-      (λ e c h. ⊎_elim (λ z. inl z) (λ (z : (e ≡ length v.calls) × (Free i ≡ c)). inr (subst (IsTrueCall (set s.words (slot_word (n + i)) 0)) z.1 tt)) (at_end v.calls (Free i) c e h))
+      (λ e c h. ⊎_elim (λ z. inl z) (λ (z : (e ≡ length v.calls) × (Free i ≡ c)). inr (subst (IsTrueCall n (set s.words (slot_word (n + i)) 0)) z.1 tt)) (at_end v.calls (Free i) c e h))
       (λ e h. (e, at_longer v.calls (Free i ∷ []) e Stop h))
       (λ u b h. let z = same_some v.open_slot (n + i) u open_slot h in omega arith) (λ u b h. clash None u refl h) (λ h. let z = o.3 in omega arith)
       (λ l' e. record {

@@ -1,7 +1,7 @@
 -- `put`, `look`, `stop`, `stopped` and `commit` keep the rule.
 use Rattle.std.proofs.Common.{◌≡◌, ◌≢◌, ℕ, ◌+◌, ◌<◌, ◌≤◌, ◌==◌, Bool, true, false, List, [], ◌∷◌, length, set, sym, refl, ap, ◌∙◌, subst, ⊎_elim, inl, inr, arith, Option, Some, None, slice_index, length-set, get_or-set_other, get_or-set_same}
-use Rattle.tc_hall.proofs.Vocabulary.{CLOCK, PassCall, Cargo, Done, Grant, HasStop, HasStopped, IsAsLeft, IsInOrder, IsInRange, KeptHall, Knows, LockView, Look, MAX_GUARDS, MayPut, Package, PackageView, Parked, Place, Put, Ready, STOP, Sat, Stop, Stopped, HallTerms, Waiting, after_put, bare, code_of, fits_granted, get_elem?, gives, grants_adopted, keeps, kept, lock_in, locks, made}
-use Rattle.tc_hall.proofs.Vocabulary.{none, seen, slot_word, some, some-injective, stepped, threads, with_call}
+use Rattle.tc_hall.proofs.Vocabulary.{CLOCK, PassCall, Cargo, Done, Grant, HasStop, Line, QueueCall, HasStopped, IsAsLeft, IsInOrder, IsInRange, KeptHall, Knows, LockView, Look, MAX_GUARDS, MayPut, Package, PackageView, Parked, Place, Put, Ready, STOP, Sat, Stop}
+use Rattle.tc_hall.proofs.Vocabulary.{Stopped, HallTerms, Waiting, after_put, bare, code_of, fits_granted, get_elem?, gives, grants_adopted, keeps, kept, lock_in, locks, made, none, seen, slot_word, some, some-injective, stepped, threads, with_call}
 use mathlib.Core.Option as maybe
 use lib.Seq.{set-get_or}
 use Rattle.atomic_table.proofs.Lists.{set_here, set_else, at_longer, at_last}
@@ -74,7 +74,7 @@ module _ (k : HallTerms) where
       let low : code < 512 = code_low (locks k) place range r.told.limits.locks in
       let ws' : List ℕ = set s.words (slot_word t) code in
       let full : maybe.Option (Option Cargo) = some (Some (Package q)) in
-      let done = done_still s.words (slot_word t) code (λ e. let z = o.3 in omega arith) in
+      let done = done_still (threads k) s.words (slot_word t) code (λ e. let z = o.3 in omega arith) in
       let stops = stops_still s.words (slot_word t) code (λ e. omega arith) in
       let old = r.passes id v at in
       let here : get_elem? w.packages t ≡ some None = set_here v.packages t None (omega arith) in
@@ -99,7 +99,7 @@ module _ (k : HallTerms) where
             (λ i. get_or-set_other s.words (slot_word t) (slot_word (threads k + i)) code 0 (λ e. omega arith)) below (o.5 open_slot) open_slot refl may.locks;
         passes = passes_stay k.image.value k.workers r.told.history r.told.history s.words ws' (λ b e. e) done stops s.views id w r.passes
             (pass_kept k.image.value k.workers r.told.history r.told.history s.words ws' (λ b e. e) done stops v w old (refl, refl, refl, refl) (λ i u e. inl e) (λ i b e. inl e)
-            (λ i c e. ⊎_elim (λ z. inl z) (λ (z : (i ≡ length v.calls) × (Put t (place_of code) (numbers q.context.locks) (given_of q) q.turns ≡ c)). inr (subst (IsTrueCall ws') z.1 tt)) (at_end v.calls (Put t (place_of code) (numbers q.context.locks) (given_of q) q.turns) c i e))
+            (λ i c e. ⊎_elim (λ z. inl z) (λ (z : (i ≡ length v.calls) × (Put t (place_of code) (numbers q.context.locks) (given_of q) q.turns ≡ c)). inr (subst (IsTrueCall (threads k) ws') z.1 tt)) (at_end v.calls (Put t (place_of code) (numbers q.context.locks) (given_of q) q.turns) c i e))
             (λ u e. inl e));
         stop = λ e. stop_stays s.views id v w at (λ i h. (i, at_longer v.calls (Put t (place_of code) (numbers q.context.locks) (given_of q) q.turns ∷ []) i Stop h)) (r.stop (stops_back s.words (slot_word t) code (λ e. omega arith) e));
         apart = apart_stays s.views id v w at record { worker = refl; maker = refl; made = refl; spent = refl; joined = refl } live r.apart;
@@ -122,23 +122,23 @@ module _ (k : HallTerms) where
       }
 
   -- a call is told, and at most the stop becomes 1
-  tells_kept : (s : St k) (r : KeptHall k s) (ws' : List ℕ) (id : ℕ) (v : Knows) (c : PassCall) → get_elem? s.views id ≡ some v → v.spent ≡ false → IsTrueCall ws' c
-      → ((j : ℕ) → j ≢ STOP → slice_index ws' j ≡ slice_index s.words j) → (slice_index s.words STOP ≡ 1 → slice_index ws' STOP ≡ 1) → length ws' ≡ length s.words
+  tells_kept : (s : St k) (r : KeptHall k s) (ws' : List ℕ) (id : ℕ) (v : Knows) (c : PassCall) → get_elem? s.views id ≡ some v → v.spent ≡ false → IsTrueCall (threads k) ws' c
+      → ((j : ℕ) → j ≢ STOP → j < slot_word (threads k + locks k) → slice_index ws' j ≡ slice_index s.words j) → (slice_index s.words STOP ≡ 1 → slice_index ws' STOP ≡ 1) → length ws' ≡ length s.words
       → (slice_index ws' STOP ≡ 1 → HasStopped (set s.views id (with_call v c)))
       → KeptHall k record { words = ws'; homes = s.homes; views = set s.views id (with_call v c) }
   tells_kept s r ws' id v c at live true' words stops long stop =
       let w : Knows = with_call v c in
-      let done : (u : ℕ) → slice_index s.words (slot_word u) ≡ 2 → slice_index ws' (slot_word u) ≡ 2 = λ u e. words (slot_word u) (λ z. omega arith) ∙ e in
+      let done : (u : ℕ) → u < threads k → slice_index s.words (slot_word u) ≡ 2 → slice_index ws' (slot_word u) ≡ 2 = λ u b e. words (slot_word u) (λ z. omega arith) (omega arith) ∙ e in
       let old = r.passes id v at in record {
         told = r.told;
         words = long ∙ r.words;
         slots = r.slots;
-        clock = words CLOCK (λ z. omega arith) ∙ r.clock;
-        placed = stays s.words ws' s.homes s.homes s.views id v w at stops (threads k) r.told.places r.placed r.told.law.all_packages (λ u b. words (slot_word u) (λ z. omega arith)) (λ u b. refl) refl refl refl (λ u b e. e) (λ u b e. e);
-        locks_placed = locks_stay (threads k) (locks k) r.told.segments s.words ws' s.homes s.homes s.views id v w at (λ i. words (slot_word (threads k + i)) (λ z. omega arith)) (λ i. refl) (λ u q b e. e) (λ u q b e. e) refl refl (λ i e. e) (λ i e. e) r.locks_placed;
+        clock = words CLOCK (λ z. omega arith) (omega arith) ∙ r.clock;
+        placed = stays s.words ws' s.homes s.homes s.views id v w at stops (threads k) r.told.places r.placed r.told.law.all_packages (λ u b. words (slot_word u) (λ z. omega arith) (omega arith)) (λ u b. refl) refl refl refl (λ u b e. e) (λ u b e. e);
+        locks_placed = locks_stay (threads k) (locks k) r.told.segments s.words ws' s.homes s.homes s.views id v w at (λ i b. words (slot_word (threads k + i)) (λ z. omega arith) (omega (arith, b, r.told.law.all_states))) (λ i. refl) (λ u q b e. e) (λ u q b e. e) refl refl (λ i e. e) (λ i e. e) r.locks_placed;
         passes = passes_stay k.image.value k.workers r.told.history r.told.history s.words ws' (λ b e. e) done stops s.views id w r.passes
             (pass_kept k.image.value k.workers r.told.history r.told.history s.words ws' (λ b e. e) done stops v w old (refl, refl, refl, refl) (λ i u e. inl e) (λ i b e. inl e)
-            (λ i d e. ⊎_elim (λ z. inl z) (λ (z : (i ≡ length v.calls) × (c ≡ d)). inr (subst (IsTrueCall ws') z.1 true')) (at_end v.calls c d i e)) (λ u e. inl e));
+            (λ i d e. ⊎_elim (λ z. inl z) (λ (z : (i ≡ length v.calls) × (c ≡ d)). inr (subst (IsTrueCall (threads k) ws') z.1 true')) (at_end v.calls c d i e)) (λ u e. inl e));
         stop = stop;
         apart = apart_stays s.views id v w at record { worker = refl; maker = refl; made = refl; spent = refl; joined = refl } live r.apart;
         listed = listed_stays r.told.history s.views id v w at r.listed record { worker = refl; maker = refl; made = omega arith; spent = refl; joined = refl; sealed = refl };
@@ -153,14 +153,14 @@ module _ (k : HallTerms) where
   look_kept s r id t v at live =
       let found : ℕ = slice_index s.words (slot_word t) in
       subst (λ (z : List ℕ). KeptHall k record { words = z; homes = s.homes; views = set s.views id (with_call v (Look t found)) }) (sym (set-get_or s.words (slot_word t) 0))
-      (tells_kept s r s.words id v (Look t found) at live (λ is. is) (λ j ne. refl) (λ e. e) refl (still_stopped s r id v (Look t found) at))
+      (tells_kept s r s.words id v (Look t found) at live (λ b is. is) (λ j ne b. refl) (λ e. e) refl (still_stopped s r id v (Look t found) at))
 
   -- the stop is made
   pub stop_kept : (s : St k) (r : KeptHall k s) (id : ℕ) (v : Knows) → get_elem? s.views id ≡ some v → v.spent ≡ false → KeptHall k (stepped s STOP 1 id [] (with_call v Stop) keeps)
   stop_kept s r id v at live =
       let one : slice_index (set s.words STOP 1) STOP ≡ 1 = get_or-set_same s.words STOP 1 0 (omega (arith, r.words)) in
       tells_kept s r (set s.words STOP 1) id v Stop at live one
-      (λ j ne. get_or-set_other s.words STOP j 1 0 ne) (λ _. one) (length-set s.words STOP 1)
+      (λ j ne b. get_or-set_other s.words STOP j 1 0 ne) (λ _. one) (length-set s.words STOP 1)
       (λ _. record { id = id; view = with_call v Stop; pass = set_here s.views id (with_call v Stop) (there s.views id v v at).0; place = length v.calls; call = at_last v.calls Stop (length v.calls) refl })
 
   -- the stop word is seen
@@ -169,4 +169,12 @@ module _ (k : HallTerms) where
       let found : ℕ = slice_index s.words STOP in
       subst (λ (z : List ℕ). KeptHall k record { words = z; homes = s.homes; views = set s.views id (with_call v (Stopped found)) }) (sym (set-get_or s.words STOP 0))
       (tells_kept s r s.words id v (Stopped found) at live (λ is. is)
-      (λ j ne. refl) (λ e. e) refl (still_stopped s r id v (Stopped found) at))
+      (λ j ne b. refl) (λ e. e) refl (still_stopped s r id v (Stopped found) at))
+
+  -- a call on a line is told, and a word behind those of the slots changes
+  pub line_kept : (s : St k) (r : KeptHall k s) (id i word left : ℕ) (v : Knows) (c : QueueCall) → get_elem? s.views id ≡ some v → v.spent ≡ false → slot_word (threads k + locks k) ≤ word
+      → KeptHall k (stepped s word left id [] (with_call v (Line i c)) keeps)
+  line_kept s r id i word left v c at live behind =
+      let same : (j : ℕ) → j < slot_word (threads k + locks k) → slice_index (set s.words word left) j ≡ slice_index s.words j = λ j b. get_or-set_other s.words word j left 0 (λ e. omega arith) in
+      let stop : slice_index (set s.words word left) STOP ≡ slice_index s.words STOP = same STOP (omega arith) in
+      tells_kept s r (set s.words word left) id v (Line i c) at live tt (λ j ne b. same j b) (λ e. stop ∙ e) (length-set s.words word left) (λ e. still_stopped s r id v (Line i c) at (sym stop ∙ e))

@@ -1,7 +1,7 @@
 -- Each operation but `commit` ties to its events.
-use Rattle.std.proofs.Common.{◌≡◌, ◌≢◌, ℕ, ◌+◌, ◌<◌, ◌==◌, Bool, true, false, List, length, set, sym, refl, ap, ◌∙◌, subst, arith, Some, None, slice_index, get_or-set_other, ⊎_elim, Option, []}
-use Rattle.tc_hall.proofs.Vocabulary.{AreEnabled, At, Cargo, Core, Custody, Done, Event, Gets, Granted, Hall, Has, HasLock, Homes, IsShown, KeptHall, Knows, LockPlace, LockView, Loose, MayClaim, MayFill, MayFree, Operation, PackageView, Parked, Place, Ready, STOP, Shows, Stop, HallTerms, Thread, ThreadPlace, Waiting, after, after_claim, after_events, after_operation, after_take}
-use Rattle.tc_hall.proofs.Vocabulary.{as_place, at_home, bare, claim, claim_effect, code_of, dealt, free, fresh, get_elem?, gone, in_hand, is_claimable, is_loose, is_running, join, kept, last_end, lies_at, lies_with, lock_in_slot, lock_with_pass, locked_in, locks, machine_limits, merged, outline, packed, place_shown, put, put_effect, runs, slot_word, some, split, stop, take}
+use Rattle.std.proofs.Common.{◌≡◌, ◌≢◌, ℕ, ◌+◌, ◌<◌, ◌≤◌, ◌==◌, Bool, true, false, List, length, set, sym, refl, ap, ◌∙◌, subst, arith, Some, None, slice_index, get_or-set_other, ⊎_elim, Option, []}
+use Rattle.tc_hall.proofs.Vocabulary.{AreEnabled, At, Cargo, Core, Custody, Done, Event, Gets, Granted, Hall, Has, HasLock, Homes, IsShown, KeptHall, Knows, LockPlace, Line, LockView, Loose, QueueCall, MayClaim, MayFill, MayFree, Operation, PackageView, Parked, Place, Ready, STOP, Shows, Stop, HallTerms, Thread, ThreadPlace, Waiting, after, after_claim, after_events, after_operation, after_take}
+use Rattle.tc_hall.proofs.Vocabulary.{as_place, at_home, bare, claim, claim_effect, code_of, dealt, free, fresh, get_elem?, gone, in_hand, is_claimable, is_loose, is_running, join, kept, last_end, lies_at, lies_with, lock_in_slot, lock_with_pass, locked_in, locks, machine_limits, merged, outline, packed, place_shown, put, put_effect, runs, slot_word, some, split, stop, take, IsClaimable}
 use Rattle.tc_hall.proofs.Vocabulary.{thread_in, threads, with_call, with_custody, with_pass, with_place}
 use Rattle.std.specs.Cmp.Derive.{both_true}
 use Rattle.std.specs.Prelude.{nat_lt, is_some, not}
@@ -94,43 +94,43 @@ module _ (k : HallTerms) (m : Moment k) where
 
   -- ---- claim and adopt
 
-  module _ (t : ℕ) (q : PackageView) (a : MayClaim k m.state m.view t q) where
+  module _ (t word : ℕ) (q : PackageView) (a : MayClaim k m.state m.view t word q) where
     low : slice_index m.state.words (slot_word t) < 512
-    low = (claimable_low k (slice_index m.state.words (slot_word t)) m.rule.told.limits.locks a.word).0
+    low = (claimable_low k (slice_index m.state.words (slot_word t)) m.rule.told.limits.locks (subst (IsClaimable k) (sym a.found) a.can)).0
 
     at_its_home : AtHome k m.state m.rule t q
     at_its_home = at_home_of k m.state m.rule t q a.below low a.slot
 
-    got : Gets (slice_index m.state.words (slot_word t)) t q m.view (after_claim m.view q)
+    got : Gets word t q m.view (after_claim m.view word q)
     got =
         let h = at_its_home in
-        subst (λ (z : PackageView). Gets (slice_index m.state.words (slot_word t)) t z m.view (after_claim m.view z)) h.same
+        subst (λ (z : PackageView × ℕ). Gets z.1 t z.0 m.view (after_claim m.view z.1 z.0)) (λ i. (h.same i, a.found i))
         (gets k m.state m.rule m.id t m.view h.stands h.home m.pass m.live a.below h.placed h.holder h.thread)
 
     claim_shows : (c c' : Core) → IsShown k m.state (outline c) → Arrives c c' t (At m.view.worker)
         → ((i : ℕ) → (outline c).lies i ≡ packed t → (outline c').lies i ≡ in_hand m.view.worker) × ((i : ℕ) → (outline c).lies i ≢ packed t → (outline c').lies i ≡ (outline c).lies i)
-        → IsShown k (after m.state m.id (claim_effect m.view t q)) (outline c')
+        → IsShown k (after m.state m.id (claim_effect m.view t word q)) (outline c')
     claim_shows c c' o arrive lies =
         let g = got in
-        claim_shown k m.state m.id m.view m.pass (outline c) (outline c') o t q a.below g.thread a.slot (let b = a.below in omega (arith, m.rule.words, b)) (subst (λ (z : ℕ). Has (after_claim m.view q) z (bare q)) g.thread (has_out (after_claim m.view q) q g.came.out)) (lock_out (after_claim m.view q) q g.came.out)
+        claim_shown k m.state m.id m.view m.pass (outline c) (outline c') o t word q a.below g.thread a.slot (let b = a.below in omega (arith, m.rule.words, b)) (subst (λ (z : ℕ). Has (after_claim m.view word q) z (bare q)) g.thread (has_out (after_claim m.view word q) q g.came.out)) (lock_out (after_claim m.view word q) q g.came.out)
         (is_moved c c' t (At m.view.worker) arrive) lies.0 lies.1
 
     rests : (c : Core) → IsShown k m.state (outline c) → lies_with (c.course t).place t ≡ packed t
     rests c o = ap (λ (z : ThreadPlace). lies_with z t) (o.place t a.below) ∙ lies_low (slice_index m.state.words (slot_word t)) t low
 
 -- what Claim asks
-claim_asks : (k : HallTerms) (m : Moment k) (t : ℕ) (q : PackageView) (from : Origin) → MayClaim k m.state m.view t q → slice_index m.state.words (slot_word t) ≡ origin_code from → (c : Core) → Shows k m.state c → may_come k c (Claim m.view.worker t) ≡ true
+claim_asks : (k : HallTerms) (m : Moment k) (t word : ℕ) (q : PackageView) (from : Origin) → MayClaim k m.state m.view t word q → slice_index m.state.words (slot_word t) ≡ origin_code from → (c : Core) → Shows k m.state c → may_come k c (Claim m.view.worker t) ≡ true
 unfolding is_enabled
-claim_asks k m t q from a word c seen =
-    both_true (worker_is k m) (both_true (lt-ltb t (threads k) a.below) (ap is_claimable (seen.shown.place t a.below ∙ ap place_shown word) ∙ shown_origin from))
+claim_asks k m t word q from a is c seen =
+    both_true (worker_is k m) (both_true (lt-ltb t (threads k) a.below) (ap is_claimable (seen.shown.place t a.below ∙ ap place_shown is) ∙ shown_origin from))
 
 -- the step of `adopt`, whatever the events make of the core
-adopt_shows : (k : HallTerms) (m : Moment k) (t lock : ℕ) (q : PackageView) (l : LockView) → MayClaim k m.state m.view t q → HasLock m.view lock l → (c c' : Core) → Shows k m.state c → IsLooseIn lock c
-    → Arrives c c' t (At m.view.worker) → (c'.custody lock).place ≡ Granted t → ((i : ℕ) → i ≢ lock → (c'.custody i).place ≡ (c.custody i).place) → Shows k (after m.state m.id (claim_effect m.view t q)) c'
-adopt_shows k m t lock q l a has c c' seen loose arrive given same = record {
+adopt_shows : (k : HallTerms) (m : Moment k) (t lock word : ℕ) (q : PackageView) (l : LockView) → MayClaim k m.state m.view t word q → HasLock m.view lock l → (c c' : Core) → Shows k m.state c → IsLooseIn lock c
+    → Arrives c c' t (At m.view.worker) → (c'.custody lock).place ≡ Granted t → ((i : ℕ) → i ≢ lock → (c'.custody i).place ≡ (c.custody i).place) → Shows k (after m.state m.id (claim_effect m.view t word q)) c'
+adopt_shows k m t lock word q l a has c c' seen loose arrive given same = record {
   between = arrive.between seen.between;
-  shown = claim_shows k m t q a c c' seen.shown arrive
-      (others_come c c' t m.view.worker arrive (rests k m t q a c seen.shown) lock (loose_here k m c seen.shown lock l has loose) given same);
+  shown = claim_shows k m t word q a c c' seen.shown arrive
+      (others_come c c' t m.view.worker arrive (rests k m t word q a c seen.shown) lock (loose_here k m c seen.shown lock l has loose) given same);
 }
 
 adopt_asks : (k : HallTerms) (m : Moment k) (t lock : ℕ) (l : LockView) → t < threads k → slice_index m.state.words (slot_word t) ≡ 256 + lock → HasLock m.view lock l → (c : Core) → Shows k m.state c → IsLooseIn lock c → CanPass k m.view.worker t lock c
@@ -143,33 +143,33 @@ adopt_asks k m t lock l below word has c seen loose =
     )
 
 -- `claim` is Claim, Adopt, or Grant and Claim
-pub claim_asking : (k : HallTerms) (m : Moment k) (t : ℕ) (q : PackageView) → MayClaim k m.state m.view t q → Asking k m (claim t q)
-claim_asking k m t q a c es seen (alone o) = ⊎_elim
-    (λ (z : slice_index m.state.words (slot_word t) ≡ 0). claim_asks k m t q origin.Ready a z c seen)
-    (λ (z : slice_index m.state.words (slot_word t) ≡ 1). claim_asks k m t q origin.Parked a z c seen) o
-claim_asking k m t q a c es seen (adopted lock l word has loose) = adopt_asks k m t lock l a.below word has c seen loose
-claim_asking k m t q a c es seen (granted lock l word has loose) = adopt_asks k m t lock l a.below word has c seen loose
+pub claim_asking : (k : HallTerms) (m : Moment k) (t word : ℕ) (q : PackageView) → MayClaim k m.state m.view t word q → Asking k m (claim t word q)
+claim_asking k m t word q a c es seen (alone o) = ⊎_elim
+    (λ (z : slice_index m.state.words (slot_word t) ≡ 0). claim_asks k m t word q origin.Ready a z c seen)
+    (λ (z : slice_index m.state.words (slot_word t) ≡ 1). claim_asks k m t word q origin.Parked a z c seen) o
+claim_asking k m t word q a c es seen (adopted lock l is has loose) = adopt_asks k m t lock l a.below is has c seen loose
+claim_asking k m t word q a c es seen (granted lock l is has loose) = adopt_asks k m t lock l a.below is has c seen loose
 
-pub claim_showing : (k : HallTerms) (m : Moment k) (t : ℕ) (q : PackageView) → MayClaim k m.state m.view t q → Showing k m (claim t q)
+pub claim_showing : (k : HallTerms) (m : Moment k) (t word : ℕ) (q : PackageView) → MayClaim k m.state m.view t word q → Showing k m (claim t word q)
 unfolding effect
-claim_showing k m t q a c es seen (alone o) enabled =
+claim_showing k m t word q a c es seen (alone o) enabled =
     let c' : Core = with_place c t (At m.view.worker) in
     let arrive = arrives c t (At m.view.worker) in record {
       between = arrive.between seen.between;
-      shown = claim_shows k m t q a c c' seen.shown arrive (all_come c c' t m.view.worker arrive (rests k m t q a c seen.shown) (λ i. refl));
+      shown = claim_shows k m t word q a c c' seen.shown arrive (all_come c c' t m.view.worker arrive (rests k m t word q a c seen.shown) (λ i. refl));
     }
-claim_showing k m t q a c es seen (adopted lock l word has loose) enabled =
+claim_showing k m t word q a c es seen (adopted lock l is has loose) enabled =
     let x = passed_to (c.custody lock) t ((c.custody lock).run + 1) in
     let c1 : Core = with_custody c lock x in
-    adopt_shows k m t lock q l a has c (with_place c1 t (At m.view.worker)) seen loose
+    adopt_shows k m t lock word q l a has c (with_place c1 t (At m.view.worker)) seen loose
     (arrives_with c lock x (with_place c1 t (At m.view.worker)) t (At m.view.worker) (arrives c1 t (At m.view.worker)))
     (ap (λ (z : Custody). z.place) (custody_here c lock lock x refl)) (λ i ne. ap (λ (z : Custody). z.place) (custody_else c lock i x ne))
-claim_showing k m t q a c es seen (granted lock l word has loose) enabled =
+claim_showing k m t word q a c es seen (granted lock l is has loose) enabled =
     let x = passed_to (c.custody lock) t 0 in
     let c1 : Core = with_custody c lock x in
     let c2 : Core = with_place c1 t at.Ready in
     let c3 : Core = with_place c2 t (At m.view.worker) in
-    adopt_shows k m t lock q l a has c c3 seen loose
+    adopt_shows k m t lock word q l a has c c3 seen loose
     (arrives_then c c2 c3 t at.Ready (At m.view.worker) (arrives_with c lock x c2 t at.Ready (arrives c1 t at.Ready)) (arrives c2 t (At m.view.worker)))
     (ap (λ (z : Custody). z.place) (custody_here c lock lock x refl)) (λ i ne. ap (λ (z : Custody). z.place) (custody_else c lock i x ne))
 
@@ -290,7 +290,7 @@ module _ (k : HallTerms) (m : Moment k) (l : LockView) (may : MayFree m.view l) 
 
 module _ (k : HallTerms) (m : Moment k) (c : Core) (es : List Event) (seen : Shows k m.state c) (is : es ≡ []) where
   -- where no word of a thread changes, no slot has more in it and no view has more out, the core is shown still
-  unmoved : (ws' : List ℕ) (hs' : Homes) (vs' : List Knows) → ((u : ℕ) → slice_index ws' (slot_word u) ≡ slice_index m.state.words (slot_word u))
+  unmoved : (ws' : List ℕ) (hs' : Homes) (vs' : List Knows) → ((u : ℕ) → u < threads k → slice_index ws' (slot_word u) ≡ slice_index m.state.words (slot_word u))
       → ((u : ℕ) (x : Cargo) → get_elem? hs' u ≡ some (some (Some x)) → get_elem? m.state.homes u ≡ some (some (Some x))) → HadOut m.state.views vs' → Shows k record { words = ws'; homes = hs'; views = vs' } (after_events k c es)
   unmoved ws' hs' vs' words homes had = after_these k _ c es [] is record {
     between = seen.between;
@@ -301,24 +301,29 @@ module _ (k : HallTerms) (m : Moment k) (c : Core) (es : List Event) (seen : Sho
   pub found_shown : (word found : ℕ) (w : Knows) → slice_index m.state.words word ≡ found → w.packages ≡ m.view.packages → w.locks ≡ m.view.locks → w.worker ≡ m.view.worker
       → Shows k record { words = set m.state.words word found; homes = m.state.homes; views = set m.state.views m.id w } (after_events k c es)
   found_shown word found w e packages locks' worker =
-      unmoved _ _ _ (λ u. ap (λ (z : List ℕ). slice_index z (slot_word u)) (ap (set m.state.words word) (sym e) ∙ set-get_or m.state.words word 0)) (λ u x f. f) (had_same m.state.views m.id m.view w m.pass packages locks' worker)
+      unmoved _ _ _ (λ u b. ap (λ (z : List ℕ). slice_index z (slot_word u)) (ap (set m.state.words word) (sym e) ∙ set-get_or m.state.words word 0)) (λ u x f. f) (had_same m.state.views m.id m.view w m.pass packages locks' worker)
 
   pub stop_shown : Shows k (after_operation k m.state m.id m.view stop) (after_events k c es)
-  stop_shown = unmoved _ _ _ (λ u. get_or-set_other m.state.words STOP (slot_word u) 1 0 (λ z. omega arith)) (λ u x f. f) (had_same m.state.views m.id m.view (with_call m.view Stop) m.pass refl refl refl)
+  stop_shown = unmoved _ _ _ (λ u b. get_or-set_other m.state.words STOP (slot_word u) 1 0 (λ z. omega arith)) (λ u x f. f) (had_same m.state.views m.id m.view (with_call m.view Stop) m.pass refl refl refl)
+
+  -- a word behind those of the slots changes
+  pub line_shown : (i word left : ℕ) (d : QueueCall) → slot_word (threads k + locks k) ≤ word
+      → Shows k record { words = set m.state.words word left; homes = m.state.homes; views = set m.state.views m.id (with_call m.view (Line i d)) } (after_events k c es)
+  line_shown i word left d behind = unmoved _ _ _ (λ u b. get_or-set_other m.state.words word (slot_word u) left 0 (λ z. omega arith)) (λ u x f. f) (had_same m.state.views m.id m.view (with_call m.view (Line i d)) m.pass refl refl refl)
 
   -- an empty slot goes into the pass's hand, or back, and the word stays
   pub slot_moved : (slot : ℕ) (b : maybe.Option (Option Cargo)) (o : Option ℕ) → ((x : Cargo) → b ≢ some (Some x))
       → Shows k record { words = set m.state.words (slot_word slot) (slice_index m.state.words (slot_word slot)); homes = set m.state.homes slot b; views = set m.state.views m.id (record m.view { open_slot = o }) } (after_events k c es)
   slot_moved slot b o empty =
-      unmoved _ _ _ (λ u. ap (λ (z : List ℕ). slice_index z (slot_word u)) (set-get_or m.state.words (slot_word slot) 0))
+      unmoved _ _ _ (λ u b. ap (λ (z : List ℕ). slice_index z (slot_word u)) (set-get_or m.state.words (slot_word slot) 0))
       (λ u x e. ⊎_elim (λ (z : (u ≡ slot) × (b ≡ some (Some x))). absurd (empty x z.1)) (λ (z : (u ≢ slot) × (get_elem? m.state.homes u ≡ some (some (Some x)))). z.1) (at_set m.state.homes slot u b (some (Some x)) e))
       (had_same m.state.views m.id m.view (record m.view { open_slot = o }) m.pass refl refl refl)
 
   pub split_shown : Shows k (after_operation k m.state m.id m.view split) (after_events k c es)
-  split_shown = unmoved _ _ _ (λ u. refl) (λ u x f. f)
+  split_shown = unmoved _ _ _ (λ u b. refl) (λ u x f. f)
       (had_more m.state.views (set m.state.views m.id (dealt m.view)) (fresh m.view) (had_same m.state.views m.id m.view (dealt m.view) m.pass refl refl refl)
       (clean_free m.view.image (length m.view.packages) (length m.view.locks) m.view.made false))
 
   pub join_shown : (other : ℕ) (w : Knows) → Shows k (after_operation k m.state m.id m.view (join other w)) (after_events k c es)
-  join_shown other w = unmoved _ _ _ (λ u. refl) (λ u x f. f)
+  join_shown other w = unmoved _ _ _ (λ u b. refl) (λ u x f. f)
       (had_less m.state.views (set m.state.views m.id (merged m.view w)) other gone (had_same m.state.views m.id m.view (merged m.view w) m.pass refl refl refl) gone_free)

@@ -4,14 +4,18 @@ use Rattle.atomic_table.specs.Table.{State, Act, keeps, takes, gives, stepped}
 use Rattle.tc_journal.specs.declared.block.Block.{Block}
 use Rattle.tc_segment.specs.View.{LockView, sealed_block}
 use Rattle.tc_context.specs.View.{PackageView, with_seal}
+use Rattle.tc_queue.specs.declared.turn.QueueCall.{QueueCall}
+use Rattle.tc_queue.specs.Asked.{left_by}
 use Rattle.tc_hall.specs.declared.board.TheConstants.{CLOCK, STOP}
+use Rattle.tc_hall.specs.declared.board.HallTerms.{HallTerms}
 use Rattle.tc_hall.specs.declared.place.TheConstants.{OUT}
 use Rattle.tc_hall.specs.declared.place.Place.{Place}
 use Rattle.tc_hall.specs.declared.board.Knows.{Knows}
-use Rattle.tc_hall.specs.declared.board.PassCall.TheVariants.{Look, Stop, Stopped}
+use Rattle.tc_hall.specs.declared.board.PassCall.TheVariants.{Line, Look, Stop, Stopped}
 use Rattle.tc_hall.specs.declared.board.Cargo.{Cargo}
 use Rattle.tc_hall.specs.declared.board.Cargo.TheVariants.{Package, Lock}
 use Rattle.tc_hall.specs.Places.{code_of, slot_word}
+use Rattle.tc_hall.specs.Lines.{line_word}
 use Rattle.tc_hall.specs.Steps.{after_claim, after_seal, after_put, after_take, after_free, after_miss, with_call, dealt, fresh, merged, gone}
 
 abbrev pub Hall : Type 0
@@ -29,9 +33,9 @@ pub record Effect : Type 0 where
 abbrev pub after : Hall → ℕ → Effect → Hall
 after s id e = stepped s e.word e.left id e.holds e.knows e.act
 
--- `claim` and `adopt` of the thread t, whose package is q
-abbrev pub claim_effect : Knows → ℕ → PackageView → Effect
-claim_effect v t q = record { word = slot_word t; left = OUT + v.worker; holds = []; knows = record (after_claim v q) { open_slot = Some t }; act = takes t (Some (Package q)) }
+-- `claim` and `adopt` of the thread t, whose word was this and whose package is q
+abbrev pub claim_effect : Knows → ℕ → ℕ → PackageView → Effect
+claim_effect v t word q = record { word = slot_word t; left = OUT + v.worker; holds = []; knows = record (after_claim v word q) { open_slot = Some t }; act = takes t (Some (Package q)) }
 
 -- `commit` of the package q with this pending block, at the stamp that was read
 abbrev pub commit_effect : Knows → ℕ → Block → PackageView → Effect
@@ -57,6 +61,10 @@ stop_effect v = record { word = STOP; left = 1; holds = []; knows = with_call v 
 
 abbrev pub stopped_effect : Knows → ℕ → Effect
 stopped_effect v found = record { word = STOP; left = found; holds = []; knows = with_call v (Stopped found); act = keeps }
+
+-- a call on the line of a lock, whose word was found so
+abbrev pub line_effect : HallTerms → Knows → ℕ → QueueCall → ℕ → Effect
+line_effect k v i c found = record { word = line_word k i c; left = left_by c found; holds = []; knows = with_call v (Line i c); act = keeps }
 
 -- a compare-and-swap that fails leaves it unchanged too
 abbrev pub miss_effect : Knows → ℕ → ℕ → Effect

@@ -2,6 +2,7 @@ pub mod Places
 pub mod PassView
 pub mod Rule
 pub mod Outs
+pub mod Lines
 pub mod Steps
 pub mod Made
 pub mod Effects

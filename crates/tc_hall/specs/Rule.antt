@@ -1,5 +1,5 @@
 -- The invariant of the table in parts: where packages, lock states and passes are, what words and history say.
-use Rattle.std.specs.Prelude.{◌≡◌, ◌≢◌, ◌⊎◌, ℕ, ◌+◌, ◌-◌, ◌<◌, ◌≤◌, Bool, true, false, List, [], length, replicate, slice_index, Option, Some, None}
+use Rattle.std.specs.Prelude.{◌≡◌, ◌≢◌, ◌⊎◌, ℕ, ◌+◌, ◌-◌, ◌*◌, ◌<◌, ◌≤◌, if◌then◌else◌, Bool, true, false, List, [], length, replicate, slice_index, Option, Some, None}
 use mathlib.Core.Option.{some, none}
 use mathlib.Core.Option as maybe
 use lib.ListN.{get_elem?}
@@ -32,6 +32,14 @@ threads k = length k.image.value.entries
 
 abbrev pub locks : HallTerms → ℕ
 locks k = length k.image.value.guards
+
+-- the number of the words: those of the clock, the stop and the slots, and where the hall has lines
+-- two places more for each lock, one of its tail and one of its links
+abbrev pub line_places : HallTerms → ℕ
+line_places k = if k.lined then 2 * locks k else 0
+
+abbrev pub words_of : HallTerms → ℕ
+words_of k = slot_word (threads k + locks k + line_places k)
 
 -- the pass of a worker with nothing out
 abbrev pub clean : Shown → ℕ → ℕ → ℕ → Bool → Knows
@@ -151,7 +159,7 @@ pub record IsPass (image : Shown) (workers : ℕ) (h : List Block) (ws : List �
   pub worker : v.worker < workers
   pub joined : (i w : ℕ) → get_elem? v.joined i ≡ some w → w < workers
   pub sealed : (i : ℕ) (b : Block) → get_elem? v.sealed i ≡ some b → get_elem? h b.stamp ≡ some b
-  pub done : (i t : ℕ) → get_elem? v.calls i ≡ some (Look t DONE) → slice_index ws (slot_word t) ≡ DONE
+  pub done : (i t : ℕ) → t < length image.entries → get_elem? v.calls i ≡ some (Look t DONE) → slice_index ws (slot_word t) ≡ DONE
   pub stop : (i : ℕ) → get_elem? v.calls i ≡ some Stop → slice_index ws STOP ≡ 1
   pub stopped : (i : ℕ) → get_elem? v.calls i ≡ some (Stopped 1) → slice_index ws STOP ≡ 1
   pub pinned : (t : ℕ) → get_elem? v.pinned t ≡ some true → slice_index ws STOP ≡ 1
@@ -208,7 +216,7 @@ pub record Told (k : HallTerms) : Type 0 where
 
 pub record KeptHall (k : HallTerms) (s : State (Option Cargo) Knows) : Type 0 where
   pub told : Told k
-  pub words : length s.words ≡ slot_word (threads k + locks k)
+  pub words : length s.words ≡ words_of k
   pub slots : length s.homes ≡ threads k + locks k
   pub clock : slice_index s.words CLOCK ≡ length told.history
   pub placed : ArePlaced (threads k) told.places s.words s.homes s.views

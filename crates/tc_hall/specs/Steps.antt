@@ -19,13 +19,14 @@ use Rattle.tc_context.specs.View.{PackageView, AllowsPending, bare, fits_of, num
 use Rattle.tc_context.specs.Ran.{DidRun}
 use Rattle.tc_law.specs.History.{Follows, StateFollows}
 use Rattle.tc_law.specs.Lawful.{Lawful, AreStrict}
+use Rattle.tc_queue.specs.Asked.{Ask, IsFound, answered}
 use Rattle.tc_hall.specs.declared.place.TheConstants.{DONE}
 use Rattle.tc_hall.specs.declared.place.Place.{Place}
 use Rattle.tc_hall.specs.declared.board.Given.{Given}
 use Rattle.tc_hall.specs.declared.board.HallTerms.{HallTerms}
 use Rattle.tc_hall.specs.declared.board.Knows.{Knows}
 use Rattle.tc_hall.specs.declared.board.PassCall.{PassCall}
-use Rattle.tc_hall.specs.declared.board.PassCall.TheVariants.{Put, Free, Look, Stop, Stopped}
+use Rattle.tc_hall.specs.declared.board.PassCall.TheVariants.{Put, Claim, Commit, Take, Free, Line, Look, Stop, Stopped}
 use Rattle.tc_hall.specs.declared.board.Cargo.{Cargo}
 use Rattle.tc_hall.specs.declared.board.Cargo.TheVariants.{Package, Lock}
 use Rattle.tc_hall.specs.Places.{code_of, place_of, slot_word}
@@ -58,12 +59,16 @@ add_all (x ∷ xs) (o ∷ slots) = or_kept x o ∷ add_all xs slots
 abbrev pub with_package_out : Knows → PackageView → Knows
 with_package_out v q = record v { packages = slice_set v.packages q.context.thread (Some (bare q)); locks = add_all v.locks q.context.locks }
 
-abbrev pub after_claim : Knows → PackageView → Knows
-after_claim v q = record (with_package_out v q) { pinned = slice_set v.pinned q.context.thread (is_pinned q); claimed = v.claimed ++ q ∷ [] }
+-- the call that takes the package, where the word of its thread was this
+abbrev pub claim_call : PackageView → ℕ → PassCall
+claim_call q word = Claim q.context.thread (place_of word)
+
+abbrev pub after_claim : Knows → ℕ → PackageView → Knows
+after_claim v word q = record (with_package_out v q) { pinned = slice_set v.pinned q.context.thread (is_pinned q); claimed = v.claimed ++ q ∷ []; calls = v.calls ++ claim_call q word ∷ [] }
 
 -- of `commit`, where the block b was sealed and the package is then q
 abbrev pub after_seal : Knows → Block → PackageView → Knows
-after_seal v b q = record (with_package_out v q) { sealed = v.sealed ++ b ∷ [] }
+after_seal v b q = record (with_package_out v q) { sealed = v.sealed ++ b ∷ []; calls = v.calls ++ Commit q.context.thread b.stamp ∷ [] }
 
 -- of `put`
 
@@ -98,7 +103,7 @@ after_put v q place =
 
 -- of `take` and `free`
 abbrev pub after_take : Knows → LockView → Knows
-after_take v l = record v { locks = slice_set v.locks l.number (Some (kept l)); taken = v.taken ++ l ∷ [] }
+after_take v l = record v { locks = slice_set v.locks l.number (Some (kept l)); taken = v.taken ++ l ∷ []; calls = v.calls ++ Take l.number ∷ [] }
 
 abbrev pub after_free : Knows → LockView → Knows
 after_free v l = record v { locks = slice_set v.locks l.number None; calls = v.calls ++ Free l.number ∷ [] }
@@ -138,7 +143,7 @@ gone = record { image = record { ranges = []; entries = []; guards = [] }; worke
 
 -- the package q of thread t was taken out of its slot; its thread's word was this
 pub record Gets (word t : ℕ) (q : PackageView) (v w : Knows) : Type 0 where
-  pub now : w ≡ after_claim v q
+  pub now : w ≡ after_claim v word q
   pub thread : q.context.thread ≡ t
   pub of : q.image ≡ v.image
   pub settled : q.pending ≡ None
@@ -147,7 +152,7 @@ pub record Gets (word t : ℕ) (q : PackageView) (v w : Knows) : Type 0 where
   -- one that is pinned to one worker is recorded as such
   pub pinned : is_pinned q ≡ true → get_elem? w.pinned t ≡ some true
   pub came : CameOut (Pack q) v w
-  pub called : Called [] v w
+  pub called : Called (claim_call q word ∷ []) v w
 
 -- the word had another value than expected
 abbrev pub Missed : ℕ → ℕ → ℕ → Knows → Knows → Type 0
@@ -194,7 +199,7 @@ pub record Takes (i : ℕ) (l : LockView) (v w : Knows) : Type 0 where
   pub now : w ≡ after_take v l
   pub rest : IsAtRest v.image i l
   pub came : CameOut (Loose l) v w
-  pub called : Called [] v w
+  pub called : Called (Take l.number ∷ []) v w
 
 pub record MayFree (v : Knows) (l : LockView) : Type 0 where
   pub has : HasLock v l.number (kept l)
@@ -271,6 +276,10 @@ did_free st m r m' = (slot : ℕ) (l : LockView) → m.1 ≡ (slot, Some (Lock l
 
 abbrev pub looked : At → Sat → ℕ → Sat → Type 0
 looked st m r m' = (t : ℕ) → st.word ≡ slot_word t → m' ≡ (with_call m.0 (Look t r), m.1)
+
+-- a call on the line of lock i, in a hall of n threads
+abbrev pub lined : ℕ → ℕ → Ask → At → Sat → ℕ → Sat → Type 0
+lined n i ask st m r m' = (m' ≡ (with_call m.0 (Line i (answered ask r)), m.1)) × IsFound n ask r
 
 abbrev pub stopping : At → Sat → ℕ → Sat → Type 0
 stopping st m r m' = m' ≡ (with_call m.0 Stop, m.1)

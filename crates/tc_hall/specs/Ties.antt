@@ -20,7 +20,7 @@ use Rattle.tc_hall.specs.declared.place.Place.TheVariants.{Ready, Waiting, Parke
 use Rattle.tc_hall.specs.Places.{slot_word}
 use Rattle.tc_hall.specs.Rule.{threads, locks, HasLock, KeptHall, locked_in}
 use Rattle.tc_hall.specs.Effects.{Hall}
-use Rattle.tc_hall.specs.Order.{Operation, claim, take, miss, commit, put, free, look, stop, stopped, reach, lay, split, join, Made, MayCome, after_operation}
+use Rattle.tc_hall.specs.Order.{Operation, claim, take, miss, commit, put, free, line, look, stop, stopped, reach, lay, split, join, Made, MayCome, after_operation}
 use Rattle.tc_hall.specs.Outline.{outline, IsBetween}
 use Rattle.tc_hall.specs.Shown.{IsShown, last_end}
 
@@ -82,7 +82,7 @@ IsPut k c v q Done es = AreInside k q c × (es ≡ Finish v.worker q.context.thr
 
 -- the operation of a pass whose state is v is these events
 abbrev pub IsOf : HallTerms → Hall → Core → Knows → Operation → List Event → Type 0
-IsOf k s c v (claim t q) es = IsClaimed k s c v t es
+IsOf k s c v (claim t word q) es = IsClaimed k s c v t es
 IsOf k s c v (commit stamp b q) es = es ≡ turns_by v.worker q.context.thread b.turns ++ Commit v.worker q.context.thread ∷ []
 IsOf k s c v (put q place) es = IsPut k c v q place es
 -- a lock is taken for a thread that is at the pass's worker
@@ -91,6 +91,7 @@ IsOf k s c v (free l) es = IsLooseIn l.number c × (es ≡ Free v.worker l.numbe
 IsOf k s c v (miss word wanted found) es = es ≡ []
 IsOf k s c v (look t found) es = es ≡ []
 IsOf k s c v stop es = es ≡ []
+IsOf k s c v (line i d) es = es ≡ []
 IsOf k s c v (stopped found) es = es ≡ []
 IsOf k s c v (reach slot) es = es ≡ []
 IsOf k s c v (lay slot) es = es ≡ []

@@ -7,6 +7,9 @@
 //! prefetch the next pair when words are used in a row. So workers that use different words or
 //! slots don't share cache lines (no false sharing). The words in between are 0, and no step is on
 //! them.
+//!
+//! A hall with lines has two places more for each lock, behind the slots' words: at the start of
+//! the first the tail of the lock's line, and in the second the links of all threads.
 
 ghost use Rattle.std.specs.Prelude.{◌≡◌, None, Some};
 ghost use Rattle.tc_hall.specs.Places.{slot_word};
@@ -21,6 +24,7 @@ use std::snapshot::Snapshot;
 use tc_context::package::Package;
 use tc_elf::image::Image;
 use tc_journal::block::{Block, Kind};
+use tc_queue::QueueCall;
 use tc_segment::state::LockState;
 
 /// The number of 8-byte words in two pairs of cache lines of 64 bytes.
@@ -50,6 +54,8 @@ pub struct HallTerms {
     pub workers: u32,
     /// The batch limit.
     pub limit: u32,
+    /// Whether the words of the locks' lines are in its table.
+    pub lined: bool,
 }
 
 /// What a slot is for.
@@ -77,6 +83,10 @@ pub enum PassCall {
     /// The thread, its place, the numbers of the locks in its package, what was granted, and how
     /// many queue turns the package has taken.
     Put(u32, Place, LinkedList<u32>, Option<Given>, u64),
+    /// The thread, and the place that it was claimed from.
+    Claim(u32, Place),
+    /// The lock.
+    Take(u32),
     /// The lock.
     Free(u32),
     /// The thread and the word that was read.
@@ -85,6 +95,10 @@ pub enum PassCall {
     Stop,
     /// The word that was read.
     Stopped(u64),
+    /// A call on the line of this lock, with its answer.
+    Line(u32, QueueCall),
+    /// The thread, and the stamp of its block that was sealed.
+    Commit(u32, u64),
 }
 
 /// A word that had another value than the step expected.
@@ -122,8 +136,8 @@ pub struct Knows {
     pub open_slot: Option<u32>,
     /// The blocks that it sealed and those of the passes that were joined into it.
     pub sealed: LinkedList<Block>,
-    /// The calls of `put`, `free`, `look`, `stop` and `stopped`, in their order, and then those of
-    /// each pass that was joined. So are the three lists below.
+    /// What it claimed, took, sealed, put, freed, looked at and stopped, and its calls on lines, in
+    /// one order, and then the same of each pass that was joined. So are the three lists below.
     pub calls: LinkedList<PassCall>,
     /// The compare-and-swaps that failed.
     pub missed: LinkedList<Miss>,

@@ -1,6 +1,7 @@
 //! Halls and their calls.
 
-ghost use Rattle.std.specs.Prelude.{◌≡◌, ◌≢◌, ◌<◌, ◌≤◌, ◌+◌, length, MatchResult, IfOk, Some, true};
+ghost use Rattle.std.specs.Prelude.{◌≡◌, ◌≢◌, ◌<◌, ◌≤◌, ◌+◌, ◌*◌, if◌then◌else◌, true, false};
+ghost use Rattle.std.specs.Prelude.{length, MatchResult, IfOk, Some};
 ghost use Rattle.tc_isa.specs.declared.limits.TheConstants.{MAX_FUEL, MAX_WORKERS, MAX_BATCH};
 ghost use Rattle.tc_elf.specs.declared.limits.TheConstants.{MAX_THREADS, MAX_GUARDS};
 ghost use Rattle.tc_elf.specs.Shown.{Shown};
@@ -55,9 +56,9 @@ pub struct LockOut(
 /// calls it with its own pass (access token). After `new` no call allocates, and none waits for another.
 #[derive(Drop)]
 pub struct Hall {
-    board: HallTable,
-    threads: u32,
-    locks: u32,
+    pub(crate) board: HallTable,
+    pub(crate) threads: u32,
+    pub(crate) locks: u32,
     // Capacity for what is taken out at the end.
     packages: Vec<Package>,
     lock_states: Vec<LockState>,
@@ -67,14 +68,14 @@ impl Model for Hall {
     ghost use Rattle.std.specs.Prelude.{◌≡◌, ◌≤◌, ◌+◌, [], length, vec_capacity};
     ghost use Rattle.tc_elf.specs.declared.limits.TheConstants.{MAX_THREADS, MAX_GUARDS};
     ghost use Rattle.tc_hall.specs.PassView.{HallView};
-    ghost use Rattle.tc_hall.specs.Places.{slot_word};
+    ghost use Rattle.tc_hall.specs.Rule.{words_of};
 
     ghost Value = { HallView };
 
     ghost view = { λ h. record { table = h.board.shared.table_id; terms = h.board.shared.key } };
 
     ghost invariant = { λ h. (h.threads ≡ length h.board.shared.key.image.value.entries)
-        × (h.board.shared.table_id.words ≡ slot_word (h.threads + h.locks))
+        × (h.board.shared.table_id.words ≡ words_of h.board.shared.key)
         × (h.board.shared.table_id.slots ≡ h.threads + h.locks)
         × (h.locks ≡ length h.board.shared.key.image.value.guards)
         × (h.packages.items ≡ [])
@@ -132,6 +133,14 @@ fn stock(alloc: Global, image: &Image, fuel: u32, limit: u32) -> Result<Vec<Slot
     Ok(slots)
 }
 
+/// How many places the lines of so many locks have, each of two pairs of cache lines.
+fn line_places(locks: u32, lined: bool) -> u32
+    requires { locks ≤ MAX_GUARDS }
+    ensures { result ≡ (if lined then 2 * locks else 0) }
+{
+    if lined { 2 * locks } else { 0 }
+}
+
 impl Hall {
     /// A hall of so many workers, and a pass for each of them. Each thread is at its start and
     /// ready; its package and the states of all locks are in their slots. All memory that the hall
@@ -147,6 +156,46 @@ impl Hall {
         requires workers { (1 ≤ workers) × (workers ≤ MAX_WORKERS) }
         requires limit { limit ≤ MAX_BATCH }
         ensures hall { IfOk result (λ r. IsHallOf image.now fuel workers limit r.0) }
+        ensures lined { IfOk result (λ r. r.0.terms.lined ≡ false) }
+        ensures passes { IfOk result (λ r. AreDealt image.now (length image.now.entries)
+            (length image.now.guards) workers r.0.table r.1.items) }
+    {
+        Hall::make(alloc, image, fuel, workers, limit, false)
+    }
+
+    /// As `new`, and the line of each lock, which is empty, is among the words of the hall's table:
+    /// `enter`, `link`, `next` and `leave` are calls of its passes.
+    pub fn with_lines(
+        alloc: Global,
+        image: &Image,
+        fuel: u32,
+        workers: u32,
+        limit: u32,
+    ) -> Result<(Hall, Vec<Pass>), AllocError>
+        requires fuel { (1 ≤ fuel) × (fuel ≤ MAX_FUEL) }
+        requires workers { (1 ≤ workers) × (workers ≤ MAX_WORKERS) }
+        requires limit { limit ≤ MAX_BATCH }
+        ensures hall { IfOk result (λ r. IsHallOf image.now fuel workers limit r.0) }
+        ensures lined { IfOk result (λ r. r.0.terms.lined ≡ true) }
+        ensures passes { IfOk result (λ r. AreDealt image.now (length image.now.entries)
+            (length image.now.guards) workers r.0.table r.1.items) }
+    {
+        Hall::make(alloc, image, fuel, workers, limit, true)
+    }
+
+    fn make(
+        alloc: Global,
+        image: &Image,
+        fuel: u32,
+        workers: u32,
+        limit: u32,
+        lined: bool,
+    ) -> Result<(Hall, Vec<Pass>), AllocError>
+        requires fuel { (1 ≤ fuel) × (fuel ≤ MAX_FUEL) }
+        requires workers { (1 ≤ workers) × (workers ≤ MAX_WORKERS) }
+        requires limit { limit ≤ MAX_BATCH }
+        ensures hall { IfOk result (λ r. IsHallOf image.now fuel workers limit r.0) }
+        ensures lined { IfOk result (λ r. r.0.terms.lined ≡ lined) }
         ensures passes { IfOk result (λ r. AreDealt image.now (length image.now.entries)
             (length image.now.guards) workers r.0.table r.1.items) }
     {
@@ -155,13 +204,16 @@ impl Hall {
         let packages = Vec::with_capacity(alloc, threads)?;
         let lock_states = Vec::with_capacity(alloc, locks)?;
         let mut passes = Vec::with_capacity(alloc, workers as usize)?;
-        let words = Vec::from_elem(alloc, 0u64, word_of(image.threads() + image.guards()))?;
+        let guards = image.guards();
+        let places = image.threads() + guards + line_places(guards, lined);
+        let words = Vec::from_elem(alloc, 0u64, word_of(places))?;
         let slots = stock(alloc, image, fuel, limit)?;
         let terms = HallTerms {
             image: Snapshot::of(image),
             fuel,
             workers,
             limit,
+            lined,
         };
         let (board, mut first) = match Table::new(alloc, words.as_slice(), slots, &terms) {
             Ok(made) => made,

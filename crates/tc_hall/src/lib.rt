@@ -42,6 +42,7 @@
 pub mod board;
 pub mod closed;
 pub mod hall;
+mod lines;
 pub mod pass;
 pub mod place;
 mod plays;

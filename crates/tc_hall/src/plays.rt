@@ -1,5 +1,5 @@
 //! What each step on the table says.
-ghost use Rattle.tc_hall.specs.Steps.{claimed, laid, reached, put_as, did_free, looked, stopping, saw_stopped, sealed_as, took_as, dealt, fresh, merged, gone};
+ghost use Rattle.tc_hall.specs.Steps.{claimed, laid, reached, put_as, did_free, looked, stopping, saw_stopped, lined, sealed_as, took_as, dealt, fresh, merged, gone};
 
 use crate::board::{Knows, Slot};
 use atomic_table::{Join, Play, Split};
@@ -59,6 +59,37 @@ pub(crate) struct Look;
 
 impl Play<Slot, Knows> for Look {
     ghost then = { looked };
+}
+
+/// The call on the line of a lock: how many threads the hall has, the lock, and what is asked.
+/// Each call chooses them.
+pub trait Asking {
+    ghost use Rattle.std.specs.Prelude.{ℕ};
+    ghost use Rattle.tc_queue.specs.Asked.{Ask};
+
+    ghost threads: { ℕ };
+
+    ghost lock: { ℕ };
+
+    ghost ask: { Ask };
+}
+
+impl Asking for Brand {
+    ghost use Rattle.tc_queue.specs.Asked.{no_ask};
+
+    ghost threads = { 0 };
+
+    ghost lock = { 0 };
+
+    ghost ask = { no_ask };
+}
+
+pub(crate) struct Line<J> {
+    marker: PhantomData<J>,
+}
+
+impl<J: Asking> Play<Slot, Knows> for Line<J> {
+    ghost then = { lined J.threads J.lock J.ask };
 }
 
 pub(crate) struct Stop;

@@ -1,7 +1,7 @@
 //! The hall simulates the abstract machine.
 
 ghost use Rattle.tc_hall.specs.Ties.{Ties};
-ghost use Rattle.tc_hall.specs.Order.{IsKept, HasOwnNotes, HasExactWords};
+ghost use Rattle.tc_hall.specs.Order.{IsKept, HasOwnNotes, HasExactWords, HasLineWords};
 ghost use Rattle.tc_hall.specs.Lift.{OpensShown, Lifts};
 
 /// Simulation. In every state of a hall that meets its invariant, each operation that may come
@@ -14,11 +14,13 @@ pub fn tie()
 
 /// The invariant between any two operations of a hall, in whatever order: the rules of places,
 /// words and history; each live pass's lists are its operations in order, with those of the passes
-/// joined into it, and no others; each word has one of its possible values.
+/// joined into it, and no others; each word has one of its possible
+/// values; the words of a line are those of a sequential queue after its calls in that order.
 pub fn order()
     ensures kept { IsKept }
     ensures parts { HasOwnNotes }
     ensures words { HasExactWords }
+    ensures lines { HasLineWords }
 {}
 
 /// Simulation of whole runs. A new hall represents the first state of the abstract machine. The

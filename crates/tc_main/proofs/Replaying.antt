@@ -24,7 +24,7 @@ use Rattle.tc_main.specs.Top.{Rejects, refused_line, rejected_line}
 use Rattle.tc_main.specs.Ends.{Verdict}
 use Rattle.tc_main.specs.Words.{AskFor, FileAndHistory, GuestFile, Needs, Nothing, Reads, most_of, needs_of}
 use Rattle.tc_main.specs.Wrong.{IsWrong, IsWrongFile, IsWrongInput, IsWrongText}
-use Rattle.tc_main.specs.declared.order.Order.{Order}
+use Rattle.tc_main.specs.declared.policy.Policy.{Policy}
 use Rattle.tc_main.specs.declared.status.Status.{Status}
 use Rattle.tc_main.specs.declared.status.Status.TheVariants.{Refused}
 use Rattle.tc_main.specs.declared.status.Status.TheVariants as status
@@ -93,7 +93,7 @@ pub answer_history : (asked : Command) (bytes : List ℕ) (s : Status) (r : Reje
 answer_history asked bytes s r wrong is = subst (Verdict asked bytes (rejected_line r)) (sym is) (wrong, refl)
 
 -- what is wrong with a guest's file alone
-pub run_wrong : (order : Order) (o : Options) (bytes : List ℕ) (w : Wrong) → length bytes ≤ most_of GuestFile → IsWrongFile bytes w → IsWrong (Run order o) bytes w
+pub run_wrong : (order : Policy) (o : Options) (bytes : List ℕ) (w : Wrong) → length bytes ≤ most_of GuestFile → IsWrongFile bytes w → IsWrong (Run order o) bytes w
 run_wrong order o bytes Short few wrong = absurd wrong
 run_wrong order o bytes (File reason) few wrong = of_file GuestFile bytes few (omega arith) ∙ ap (option_map named) wrong.0
 run_wrong order o bytes (History r) few wrong = absurd wrong

@@ -5,7 +5,7 @@ use Rattle.tc_isa.specs.declared.options.Options.{Options}
 use Rattle.tc_main.specs.Own.{run_words}
 use Rattle.tc_main.specs.Top.{HasRead, IsReport, IsTextOf, IsWanted, ReadsAll}
 use Rattle.tc_main.specs.Words.{GuestFile, Needs, needs_of, spelling}
-use Rattle.tc_main.specs.declared.order.Order.TheVariants.{Entry, Nodes}
+use Rattle.tc_main.specs.declared.policy.Policy.TheVariants.{Entry, Nodes}
 use Rattle.tc_main.specs.declared.words.Command.{Command}
 use Rattle.tc_main.specs.declared.words.Command.TheVariants.{Run, Generate, Demo, Replay, Profile}
 use Rattle.tc_main.proofs.SameAsked.{same_options}

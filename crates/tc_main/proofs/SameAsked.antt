@@ -8,7 +8,7 @@ use Rattle.tc_elf.specs.declared.limits.TheConstants.{MAX_FILE}
 use Rattle.tc_isa.specs.declared.limits.TheConstants.{MAX_BATCH, MAX_FUEL, MAX_WORKERS}
 use Rattle.tc_isa.specs.declared.options.Options.{Options}
 use Rattle.tc_main.specs.Words.{AskFor, FileAndHistory, GuestFile, IsWithinLimits, Needs, Nothing, needs_of, option_words, spelling}
-use Rattle.tc_main.specs.declared.order.Order.TheVariants.{Entry, Nodes}
+use Rattle.tc_main.specs.declared.policy.Policy.TheVariants.{Entry, Nodes}
 use Rattle.tc_main.specs.declared.words.Command.{Command}
 use Rattle.tc_main.specs.declared.words.Command.TheVariants.{Run, Generate, Demo, Replay, Profile}
 

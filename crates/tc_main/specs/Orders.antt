@@ -3,12 +3,12 @@ use Rattle.std.specs.Prelude.{◌≡◌, ℕ, ◌≤◌, ◌%◌, List, All}
 use mathlib.Core.Option.{some}
 use lib.ListN.{get_elem?}
 use Rattle.tc_nodes.specs.View.{NodeSeatView}
-use Rattle.tc_main.specs.declared.order.Order.{Order}
-use Rattle.tc_main.specs.declared.order.Order.TheVariants.{Entry, Nodes}
-use Rattle.tc_main.specs.declared.order.TheConstants.{MAX_PASSES}
+use Rattle.tc_main.specs.declared.policy.Policy.{Policy}
+use Rattle.tc_main.specs.declared.policy.Policy.TheVariants.{Entry, Nodes}
+use Rattle.tc_main.specs.declared.policy.TheConstants.{MAX_PASSES}
 
 -- this order is possible for so many workers: each node has a worker, and the bound is not too great
-abbrev pub IsOrderFor : ℕ → Order → Type 0
+abbrev pub IsOrderFor : ℕ → Policy → Type 0
 IsOrderFor workers Entry = Unit {0}
 IsOrderFor workers (Nodes nodes bound) = (1 ≤ nodes) × (nodes ≤ workers) × (bound ≤ MAX_PASSES)
 

@@ -5,7 +5,7 @@ use Rattle.tc_isa.specs.declared.options.Options.{Options}
 use Rattle.tc_build.specs.declared.generate.TheConstants.{MAX_ROUNDS}
 use Rattle.tc_elf.specs.declared.limits.TheConstants.{MAX_FILE}
 use Rattle.tc_main.specs.Orders.{IsOrderFor}
-use Rattle.tc_main.specs.declared.order.Order.TheVariants.{Entry, Nodes}
+use Rattle.tc_main.specs.declared.policy.Policy.TheVariants.{Entry, Nodes}
 use Rattle.tc_main.specs.declared.words.Command.{Command}
 use Rattle.tc_main.specs.declared.words.Command.TheVariants.{Run, Generate, Demo, Replay, Profile}
 

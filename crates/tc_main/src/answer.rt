@@ -243,8 +243,8 @@ pub(crate) fn answer_words<R: Threads + Wait + Sync, S: Source, G: Gate, K: Sink
             })
         }
         Some(asked) => {
-            let maker = &ByEntry;
-            answer_asked(rt, alloc, asked, source, &Setting { maker, gate }, sink)
+            let setting: Setting<'_, ByEntry, G> = Setting { maker: None, gate };
+            answer_asked(rt, alloc, asked, source, &setting, sink)
         }
     }
 }

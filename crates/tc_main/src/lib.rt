@@ -8,7 +8,7 @@
 //! `IsCompleteRun` defines the histories that are replayed; it requires less, since the texts do
 //! not depend on the rest.
 //!
-//! - `words`: what the arguments ask for. `order`: the order in which a lock's waiters are served.
+//! - `words`: what the arguments ask for. `policy`: the order in which a lock's waiters are served.
 //!   `run`: a run by workers, from the image to the report. `nodes`: a run by workers that belong
 //!   to NUMA nodes. `own`: runs for your own programs, to a report or to values. `demo`: a run of
 //!   the generator's guest, to the summary. `replay`: a finished history, to its report or its
@@ -30,8 +30,8 @@ pub mod delegation;
 mod demo;
 pub mod existence;
 mod nodes;
-pub mod order;
 pub mod own;
+pub mod policy;
 pub mod program;
 pub mod rejection;
 pub mod replay;

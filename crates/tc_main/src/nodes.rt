@@ -2,7 +2,7 @@
 
 ghost use Rattle.std.specs.Prelude.{◌≡◌, ◌≤◌, ◌%◌, All, IfOk, length, map};
 ghost use Rattle.tc_main.specs.Orders.{AreOnNodes};
-ghost use Rattle.tc_main.specs.declared.order.TheConstants.{MAX_PASSES as MOST};
+ghost use Rattle.tc_main.specs.declared.policy.TheConstants.{MAX_PASSES as MOST};
 ghost use Rattle.tc_nodes.specs.Lines.{queue_as, seat_as};
 ghost use Rattle.tc_isa.specs.declared.limits.TheConstants.{MAX_WORKERS};
 ghost use Rattle.tc_workers.specs.Crew.{AreQueues, AreSeatsOf};
@@ -14,7 +14,7 @@ use std::thread::Threads;
 use tc_elf::image::Image;
 use tc_hall::closed::Closed;
 use tc_isa::options::Options;
-use tc_nodes::NodeQueue;
+use tc_nodes::{NodeQueue, NodeSeat};
 use tc_workers::gate::Gate;
 use tc_workers::lines::{Lines, deal, empty_rows};
 use tc_workers::run_with;
@@ -27,7 +27,7 @@ fn line_up_nodes(
     workers: u32,
     nodes: u32,
     bound: u32,
-) -> Result<Lines<NodeQueue>, AllocError>
+) -> Result<Lines<NodeQueue, NodeSeat>, AllocError>
     requires workers { workers ≤ MAX_WORKERS }
     requires nodes { (1 ≤ nodes) × (nodes ≤ workers) }
     requires bound { bound ≤ MOST }

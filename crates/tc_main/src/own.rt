@@ -16,7 +16,7 @@ ghost use Rattle.tc_report.specs.Legal.{IsLegalRun, results_after};
 ghost use Rattle.tc_report.specs.Outcome.{IsOutcome};
 
 use crate::answer::answer_asked;
-use crate::order::Order;
+use crate::policy::Policy;
 use crate::run::{Setting, WholeRun, run_whole};
 use crate::status::Status;
 use crate::top::status_of;
@@ -49,6 +49,7 @@ where
     ensures few { IfOk result (λ run. length run.history.items < 2 ^ 32) }
     ensures addable { IfOk result (λ run. CanAllBeAdded image.now run.history.items) }
 {
+    let maker = Some(maker);
     run_whole(rt, alloc, image, options, &Setting { maker, gate })
 }
 
@@ -67,8 +68,9 @@ where
     ensures { Ends (run_words options) (S.stream source.old) (S.stream source.new)
         (K.stream sink.old) (K.stream sink.new) result }
 {
-    let order = Order::Entry;
+    let order = Policy::Entry;
     let asked = Command::Run { order, options };
+    let maker = Some(maker);
     match answer_asked(rt, alloc, asked, source, &Setting { maker, gate }, sink) {
         Ok(answer) => status_of(answer),
         Err(_) => Status::OutOfMemory,

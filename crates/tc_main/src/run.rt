@@ -13,7 +13,7 @@ ghost use Rattle.tc_report.specs.Written.{Wrote};
 ghost use Rattle.tc_workers.specs.Run.{IsWholeRun};
 
 use crate::nodes::run_nodes;
-use crate::order::Order;
+use crate::policy::Policy;
 use std::alloc::{AllocError, Global};
 use std::sync::Wait;
 use std::thread::Threads;
@@ -30,7 +30,7 @@ use tc_report::written::Written;
 use tc_seats::QueueMaker;
 use tc_segment::state::LockState;
 use tc_workers::gate::Gate;
-use tc_workers::run_made;
+use tc_workers::{run_all, run_made};
 
 /// The invariant of each of the lock states. A lemma: it goes over them without effect.
 fn keep(locks: &[LockState])
@@ -62,11 +62,12 @@ fn history_of(alloc: Global, packages: &[Package]) -> Result<Vec<Block>, AllocEr
     merge_lent(alloc, &logs)
 }
 
-/// The parameters of a run: how its workers wait, which queues stand for `Order::Entry`, and
-/// which observer they call.
+/// The parameters of a run: which queues stand for `Policy::Entry`, and which observer its workers
+/// call.
 #[derive(Drop)]
 pub(crate) struct Setting<'a, M, G> {
-    pub maker: &'a M,
+    /// Makes the queues. None: the waiters stand in the lines of the hall.
+    pub maker: Option<&'a M>,
     pub gate: &'a G,
 }
 
@@ -75,7 +76,7 @@ fn run_in<R: Threads + Wait + Sync, M: QueueMaker, G: Gate>(
     rt: &R,
     alloc: Global,
     image: &Image,
-    order: Order,
+    order: Policy,
     options: Options,
     setting: &Setting<'_, M, G>,
 ) -> Result<Closed, AllocError>
@@ -86,8 +87,11 @@ where
 {
     let gate = setting.gate;
     match order {
-        Order::Entry => run_made(rt, alloc, image, options, setting.maker, gate),
-        Order::Nodes { nodes, bound } => run_nodes(rt, alloc, image, nodes, bound, options, gate),
+        Policy::Entry => match setting.maker {
+            Some(maker) => run_made(rt, alloc, image, options, maker, gate),
+            None => run_all(rt, alloc, image, options, gate),
+        },
+        Policy::Nodes { nodes, bound } => run_nodes(rt, alloc, image, nodes, bound, options, gate),
     }
 }
 
@@ -96,7 +100,7 @@ fn run_closed<R: Threads + Wait + Sync, M: QueueMaker, G: Gate>(
     rt: &R,
     alloc: Global,
     image: &Image,
-    order: Order,
+    order: Policy,
     options: Options,
     setting: &Setting<'_, M, G>,
 ) -> Result<Closed, AllocError>
@@ -120,7 +124,7 @@ pub struct WholeRun {
     pub history: Vec<Block>,
 }
 
-/// Runs the guest, with the queues of the maker, until each thread has ended.
+/// Runs the guest, in the order of entry, until each thread has ended.
 pub(crate) fn run_whole<R: Threads + Wait + Sync, M: QueueMaker, G: Gate>(
     rt: &R,
     alloc: Global,
@@ -138,7 +142,7 @@ where
     ensures addable { IfOk result (λ run. CanAllBeAdded image.now run.history.items) }
 {
     let _threads = image.threads();
-    let closed = run_closed(rt, alloc, image, Order::Entry, options, setting)?;
+    let closed = run_closed(rt, alloc, image, Policy::Entry, options, setting)?;
     let history = history_of(alloc, closed.packages())?;
     Ok(WholeRun { closed, history })
 }
@@ -151,7 +155,7 @@ pub(crate) fn run_report<R: Threads + Wait + Sync, M: QueueMaker, G: Gate, K: Si
     rt: &R,
     alloc: Global,
     image: &Image,
-    order: Order,
+    order: Policy,
     options: Options,
     setting: &Setting<'_, M, G>,
     sink: &mut K,

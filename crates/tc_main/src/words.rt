@@ -5,9 +5,9 @@ ghost use Rattle.tc_isa.specs.declared.options.Options.{Options as Chosen};
 ghost use Rattle.tc_main.specs.Words.{AskFor, AskForNothing, option_words};
 ghost use Rattle.tc_elf.specs.declared.limits.TheConstants.{MAX_FILE};
 ghost use Rattle.tc_main.specs.declared.words.Command.TheVariants.{Run, Generate, Demo as Demonstrate, Replay, Profile};
-ghost use Rattle.tc_main.specs.declared.order.Order.TheVariants.{Entry, Nodes};
+ghost use Rattle.tc_main.specs.declared.policy.Policy.TheVariants.{Entry, Nodes};
 
-use crate::order::{MAX_PASSES, Order};
+use crate::policy::{MAX_PASSES, Policy};
 use itoa::Buffer;
 use std::str::from_utf8;
 use tc_build::generate::MAX_ROUNDS;
@@ -29,7 +29,7 @@ pub enum Command {
     /// A run of the source's guest.
     Run {
         /// The order in which the waiters of a lock are served.
-        order: Order,
+        order: Policy,
         /// The options of the run.
         options: Options,
     },
@@ -133,7 +133,7 @@ fn run_of(words: &[Word]) -> Option<Options>
 }
 
 /// The order and the options of the run by nodes that the arguments ask for.
-fn nodes_of(words: &[Word]) -> Option<(Order, Options)>
+fn nodes_of(words: &[Word]) -> Option<(Policy, Options)>
     ensures some { IfSome result (λ asked. AskFor words.now (Run asked.0 asked.1)) }
     ensures none { IfNone result ((nodes bound : ℕ) (o : Chosen)
         → ¬ AskFor words.now (Run (Nodes nodes bound) o)) }
@@ -147,7 +147,7 @@ fn nodes_of(words: &[Word]) -> Option<(Order, Options)>
     let options = options_of(options)?;
     let nodes = number_of(nodes, 1, options.workers)?;
     let bound = number_of(bound, 0, MAX_PASSES)?;
-    Some((Order::Nodes { nodes, bound }, options))
+    Some((Policy::Nodes { nodes, bound }, options))
 }
 
 /// The rounds of the guest whose file the arguments ask for.
@@ -207,7 +207,7 @@ pub fn asked_of(words: &[Word]) -> Option<Command>
     ensures none { IfNone result (AskForNothing words.now) }
 {
     if let Some(options) = run_of(words) {
-        let order = Order::Entry;
+        let order = Policy::Entry;
         return Some(Command::Run { order, options });
     }
     if let Some(rounds) = file_of(words) {

@@ -11,13 +11,15 @@ use Rattle.atomic_table.specs.Table.{State, step, keeps, Allows, Splits}
 use Rattle.atomic_table.proofs.Lists.{at_set, set_again}
 use Rattle.tc_queue.specs.declared.turn.Turn.{Turn}
 use Rattle.tc_queue.specs.declared.turn.QueueCall.{QueueCall}
-use Rattle.tc_queue.specs.declared.turn.QueueCall.TheVariants.{Enter, Link, Next, Leave}
+use Rattle.tc_queue.specs.declared.turn.QueueCall.TheVariants.{Link}
 use Rattle.tc_queue.specs.declared.board.SeatLog.{SeatLog}
-use Rattle.tc_queue.specs.Words.{IsTurn, turn_word, link_word}
+use Rattle.tc_queue.specs.declared.words.Linked.{Linked}
+use Rattle.tc_queue.specs.Words.{IsTurn, turn_at, turn_word, link_at, link_word}
 use Rattle.tc_queue.specs.Calls.{answer_to_enter, answer_to_next, answer_to_leave, tail_without, with_call, IsTail, IsLink, MayLink}
 use Rattle.tc_queue.specs.Order.{Plain, Made, plain_after, queue_after, calls_of, MayCome, tail_word, word_of_link, AreWords, log_beside, IsOrdered}
-use Rattle.tc_queue.specs.Steps.{Enters, Links, Looks, Leaves}
-use Rattle.tc_queue.proofs.Packed.{word_without}
+use Rattle.tc_queue.specs.Asked.{Ask, answered, enter, link, next, leave}
+use Rattle.tc_queue.specs.Steps.{Asks}
+use Rattle.tc_queue.proofs.Packed.{tail_back, link_back, word_without}
 use Rattle.tc_queue.proofs.Orders.{IsSound, sound_after, no_calls}
 use Rattle.tc_lemmas.proofs.Lists.{in_range, at_end}
 
@@ -77,87 +79,76 @@ with_link n words q b u word low is are = record {
 
 -- ---- the steps
 
-module _ (n slots id : ℕ) (v : SeatLog) (c : List (ℕ × ℕ)) (u : Turn) where
-  abbrev pub EntersAt : ℕ → Type 0
-  EntersAt word = Allows (IsOrdered n) slots id (v, c) 0 (λ _. word) (Enters u (step slots 0 word 0 none) (v, c))
+module _ (n slots id : ℕ) (v : SeatLog) (c : List (ℕ × ℕ)) (ask : Ask) (u : Turn) where
+  -- what is read of the tail and of a link is there
+  module _ (s : State ℕ SeatLog) (r : IsOrdered n s) (at : get_elem? s.views id ≡ some v) where
+    counted : n ≡ v.threads
+    counted = sym (ap (λ (z : SeatLog). z.threads) (log_is n s r id v at))
 
-  pub enters : (word : ℕ) → IsTurn n u → word ≡ turn_word u → EntersAt word
-  enters word turn is s r deep at small =
-      let tail = (queue_after r.order).tail in
-      let call : QueueCall = Enter u (answer_to_enter tail) in
-      let same = ap (λ (z : SeatLog). z.threads) (log_is n s r id v at) in (
+    tail_read : turn_at (slice_index s.words 0) ≡ (queue_after r.order).tail
+    tail_read = ap turn_at r.words.tail ∙ tail_back n (queue_after r.order).tail r.few (sound n s r id v at).tail
+
+    tail_found : IsTail v.threads (turn_at (slice_index s.words 0))
+    tail_found = subst (λ (z : ℕ × Option Turn). IsTail z.0 z.1) (λ i. (counted i, sym tail_read i)) (sound n s r id v at).tail
+
+    link_read : u.thread < n → link_at (slice_index s.words (u.thread + 1)) ≡ (queue_after r.order).links u.thread
+    link_read low = ap link_at (r.words.links u.thread low) ∙ link_back n ((queue_after r.order).links u.thread) r.few ((sound n s r id v at).links u.thread)
+
+    link_found : u.thread < n → IsLink v.threads (link_at (slice_index s.words (u.thread + 1)))
+    link_found low = subst (λ (z : ℕ × Option Linked). IsLink z.0 z.1) (λ i. (counted i, sym (link_read low) i)) ((sound n s r id v at).links u.thread)
+
+  abbrev pub EntersAt : ℕ → Ask → Type 0
+  EntersAt word a = Allows (IsOrdered n) slots id (v, c) 0 (λ _. word) (Asks a (step slots 0 word 0 none) (v, c))
+
+  pub enters : (word : ℕ) → ask ≡ enter u → IsTurn n u → word ≡ turn_word u → EntersAt word ask
+  enters word asked turn is = subst (EntersAt word) (sym asked) (λ s r deep at small.
+      let call : QueueCall = answered (enter u) (slice_index s.words 0) in (
         with_call v call,
         keeps,
         tt,
-        adds n s r id v at call (set s.words 0 word) (turn, refl) (with_tail n s.words (queue_after r.order) (Some u) word is r.words),
-        record {
-          found = tail;
-          in_range = subst (λ (k : ℕ). IsTail k tail) (sym same) (sound n s r id v at).tail;
-          place = refl;
-          word_found = r.words.tail;
-          word_left = is;
-          log = refl;
-          slots = refl;
-        },
-      )
+        adds n s r id v at call (set s.words 0 word) (turn, ap answer_to_enter (tail_read s r at)) (with_tail n s.words (queue_after r.order) (Some u) word is r.words),
+        record { now = refl; found = tail_found s r at },
+      ))
 
-  abbrev pub LeavesAt : ℕ → Type 0
-  LeavesAt word = Allows (IsOrdered n) slots id (v, c) 0 (λ k. either (k == word) 0 k) (Leaves u (step slots 0 word 0 none) (v, c))
+  abbrev pub LeavesAt : ℕ → Ask → Type 0
+  LeavesAt word a = Allows (IsOrdered n) slots id (v, c) 0 (λ k. either (k == word) 0 k) (Asks a (step slots 0 word 0 none) (v, c))
 
-  pub leaves : (word : ℕ) → IsTurn n u → word ≡ turn_word u → LeavesAt word
-  leaves word turn is s r deep at small =
+  pub leaves : (word : ℕ) → ask ≡ leave u → IsTurn n u → word ≡ turn_word u → LeavesAt word ask
+  leaves word asked turn is = subst (LeavesAt word) (sym asked) (λ s r deep at small.
       let tail = (queue_after r.order).tail in
-      let call : QueueCall = Leave u (answer_to_leave u tail) in
       let found : ℕ = slice_index s.words 0 in
-      let same = ap (λ (z : SeatLog). z.threads) (log_is n s r id v at) in
+      let call : QueueCall = answered (leave u) found in
       let left : either (found == word) 0 found ≡ tail_word (tail_without u tail) = ap (λ (z : ℕ × ℕ). either (z.0 == z.1) 0 z.0) (λ i. (r.words.tail i, is i)) ∙ word_without n tail u r.few (sound n s r id v at).tail turn in (
         with_call v call,
         keeps,
         tt,
-        adds n s r id v at call (set s.words 0 (either (found == word) 0 found)) (turn, refl) (with_tail n s.words (queue_after r.order) (tail_without u tail) (either (found == word) 0 found) left r.words),
-        record {
-          found = tail;
-          in_range = subst (λ (k : ℕ). IsTail k tail) (sym same) (sound n s r id v at).tail;
-          place = refl;
-          word_found = r.words.tail;
-          words = (is, refl);
-          log = refl;
-          slots = refl;
-        },
-      )
+        adds n s r id v at call (set s.words 0 (either (found == word) 0 found)) (turn, ap (answer_to_leave u) (tail_read s r at)) (with_tail n s.words (queue_after r.order) (tail_without u tail) (either (found == word) 0 found) left r.words),
+        record { now = refl; found = tail_found s r at },
+      ))
 
-  abbrev pub LooksAt : ℕ → Type 0
-  LooksAt place = Allows (IsOrdered n) slots id (v, c) place (λ k. k) (Looks u (step slots place 0 0 none) (v, c))
+  abbrev pub LooksAt : ℕ → Ask → Type 0
+  LooksAt place a = Allows (IsOrdered n) slots id (v, c) place (λ k. k) (Asks a (step slots place 0 0 none) (v, c))
 
-  pub looks : (place : ℕ) → IsTurn n u → place ≡ u.thread + 1 → LooksAt place
-  looks place turn is = subst LooksAt (sym is) (λ s r deep at small.
-      let link = (queue_after r.order).links u.thread in
-      let call : QueueCall = Next u (answer_to_next u link) in
-      let same = ap (λ (z : SeatLog). z.threads) (log_is n s r id v at) in (
+  pub looks : (place : ℕ) → ask ≡ next u → IsTurn n u → place ≡ u.thread + 1 → LooksAt place ask
+  looks place asked turn is = subst (λ (z : ℕ × Ask). LooksAt z.0 z.1) (λ i. (sym is i, sym asked i)) (λ s r deep at small.
+      let call : QueueCall = answered (next u) (slice_index s.words (u.thread + 1)) in (
         with_call v call,
         keeps,
         tt,
-        adds n s r id v at call (set s.words (u.thread + 1) (slice_index s.words (u.thread + 1))) (turn, refl) (subst (λ (l : List ℕ). AreWords n l (queue_after r.order)) (sym (set-get_or s.words (u.thread + 1) 0)) r.words),
-        record {
-          found = link;
-          in_range = subst (λ (k : ℕ). IsLink k link) (sym same) ((sound n s r id v at).links u.thread);
-          place = refl;
-          word_found = r.words.links u.thread turn.thread;
-          log = refl;
-          slots = refl;
-        },
+        adds n s r id v at call (set s.words (u.thread + 1) (slice_index s.words (u.thread + 1))) (turn, ap (answer_to_next u) (link_read s r at turn.thread)) (subst (λ (l : List ℕ). AreWords n l (queue_after r.order)) (sym (set-get_or s.words (u.thread + 1) 0)) r.words),
+        record { now = refl; found = link_found s r at turn.thread },
       ))
 
-  abbrev pub LinksAt : Turn → ℕ → ℕ → Type 0
-  LinksAt b place word = Allows (IsOrdered n) slots id (v, c) place (λ _. word) (λ _. Links b u (step slots place word 0 none) (v, c) word)
+  abbrev pub LinksAt : ℕ → ℕ → Ask → Type 0
+  LinksAt place word a = Allows (IsOrdered n) slots id (v, c) place (λ _. word) (λ _. Asks a (step slots place word 0 none) (v, c) word)
 
-  pub links : (b : Turn) (place word : ℕ) → IsTurn n b → IsTurn n u → MayLink v.calls u b → place ≡ b.thread + 1 → word ≡ link_word (record { before = b.number; behind = u }) → LinksAt b place word
-  links b place word before turn may is holds = subst (λ (k : ℕ). LinksAt b k word) (sym is) (λ s r deep at small. (
+  pub links : (b : Turn) (place word : ℕ) → ask ≡ link b u → IsTurn n b → IsTurn n u → MayLink v.calls u b → place ≡ b.thread + 1 → word ≡ link_word (record { before = b.number; behind = u }) → LinksAt place word ask
+  links b place word asked before turn may is holds = subst (λ (z : ℕ × Ask). LinksAt z.0 word z.1) (λ i. (sym is i, sym asked i)) (λ s r deep at small. (
     with_call v (Link b u),
     keeps,
     tt,
     adds n s r id v at (Link b u) (set s.words (b.thread + 1) word) (before, turn, may) (with_link n s.words (queue_after r.order) b u word before.thread holds r.words),
-    record { place = refl; word_left = holds; log = refl; slots = refl },
+    record { now = refl; found = tt },
   ))
 
 -- ---- a seat more

@@ -46,14 +46,3 @@ word_without n (Some last) u few is turn =
     by_test : (v : Bool) (last : Turn) → cond v 0 (turn_word last) ≡ tail_word (cond v None (Some last))
     by_test true last = refl
     by_test false last = refl
-
--- what was found is read back
-pub found_tail : (n k : ℕ) (found read : Option Turn) (word : ℕ) → n ≡ k → k ≤ 64 → IsTail n found → word ≡ tail_word found → read ≡ turn_at word → (found ≡ read) × IsTail k read
-found_tail n k found read word same few is there back =
-    let e : read ≡ found = back ∙ (ap turn_at there ∙ tail_back n found (subst (λ (m : ℕ). m ≤ 64) (sym same) few) is) in
-    (sym e, subst (λ (z : ℕ × Option Turn). IsTail z.0 z.1) (λ i. (same i, sym e i)) is)
-
-pub found_link : (n k : ℕ) (found read : Option Linked) (word : ℕ) → n ≡ k → k ≤ 64 → IsLink n found → word ≡ word_of_link found → read ≡ link_at word → (found ≡ read) × IsLink k read
-found_link n k found read word same few is there back =
-    let e : read ≡ found = back ∙ (ap link_at there ∙ link_back n found (subst (λ (m : ℕ). m ≤ 64) (sym same) few) is) in
-    (sym e, subst (λ (z : ℕ × Option Linked). IsLink z.0 z.1) (λ i. (same i, sym e i)) is)

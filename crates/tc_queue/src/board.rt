@@ -1,7 +1,7 @@
-//! The shared words as an atomic table with its invariant, and what each kind of step on it says.
+//! The shared words as an atomic table with its invariant, and what a step on it says.
 //! Word 0 is the tail, and word t + 1 the link of thread t.
 
-ghost use Rattle.tc_queue.specs.Steps.{Enters, Links, Looks, Leaves};
+ghost use Rattle.tc_queue.specs.Steps.{Asks};
 
 use crate::turn::QueueCall;
 use atomic_table::{Play, Seat, Split, Table, TableRule};
@@ -31,53 +31,25 @@ pub(crate) type QueueTable = Table<u8, SeatLog, u32, Ordered, Global>;
 
 pub(crate) type QueueTableSeat = Seat<u8, SeatLog>;
 
-/// The turns that a call names, its own and the one before it. Each call chooses them.
-pub trait Named {
-    ghost use Rattle.tc_queue.specs.declared.turn.Turn.{Turn};
+/// The call, before it is answered. Each call chooses it.
+pub trait Asking {
+    ghost use Rattle.tc_queue.specs.Asked.{Ask};
 
-    ghost own: { Turn };
-
-    ghost before: { Turn };
+    ghost ask: { Ask };
 }
 
-impl Named for Brand {
-    ghost use Rattle.tc_queue.specs.Words.{no_turn};
+impl Asking for Brand {
+    ghost use Rattle.tc_queue.specs.Asked.{no_ask};
 
-    ghost own = { no_turn };
-
-    ghost before = { no_turn };
+    ghost ask = { no_ask };
 }
 
-pub(crate) struct Enter<J> {
+pub(crate) struct Call<J> {
     marker: PhantomData<J>,
 }
 
-impl<J: Named> Play<u8, SeatLog> for Enter<J> {
-    ghost then = { Enters J.own };
-}
-
-pub(crate) struct Link<J> {
-    marker: PhantomData<J>,
-}
-
-impl<J: Named> Play<u8, SeatLog> for Link<J> {
-    ghost then = { Links J.before J.own };
-}
-
-pub(crate) struct Next<J> {
-    marker: PhantomData<J>,
-}
-
-impl<J: Named> Play<u8, SeatLog> for Next<J> {
-    ghost then = { Looks J.own };
-}
-
-pub(crate) struct Leave<J> {
-    marker: PhantomData<J>,
-}
-
-impl<J: Named> Play<u8, SeatLog> for Leave<J> {
-    ghost then = { Leaves J.own };
+impl<J: Asking> Play<u8, SeatLog> for Call<J> {
+    ghost then = { Asks J.ask };
 }
 
 /// Adds a seat.

@@ -24,9 +24,10 @@ mod laws;
 mod queue;
 mod turn;
 mod waiters;
-mod words;
+pub mod words;
 
 pub use laws::{line, packing, serving};
 pub use queue::{Queue, QueueSeat};
 pub use turn::{Arrival, Departure, Entered, Leave, QueueCall, Turn};
 pub use waiters::Waiters;
+pub use words::Linked;

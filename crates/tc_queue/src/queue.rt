@@ -8,10 +8,11 @@ ghost use Rattle.tc_queue.specs.declared.turn.QueueCall.TheVariants.{Enter, Link
 ghost use Rattle.tc_queue.specs.Words.{IsTurn};
 ghost use Rattle.tc_queue.specs.Calls.{IsTail, IsLink, KnowsTurns, DidEnter, DidLeave, enter_call, next_call, leave_call};
 ghost use Rattle.tc_queue.specs.View.{IsOpened, MayLinkBehind, seat_with};
-ghost use Rattle.tc_queue.specs.Lines.{MayCall, MayStep, seat_as};
+ghost use Rattle.tc_queue.specs.Lines.{MayCall, seat_as};
+ghost use Rattle.tc_queue.specs.Asked.{enter as Ask_enter, link as Ask_link};
+ghost use Rattle.tc_queue.specs.Asked.{next as Ask_next, leave as Ask_leave};
 
-use crate::board;
-use crate::board::{AddSeat, Named, QueueTable, QueueTableSeat};
+use crate::board::{AddSeat, Asking, Call, QueueTable, QueueTableSeat};
 use crate::turn::{Entered, Leave, Turn};
 use crate::words::Linked;
 use std::alloc::{AllocError, Global};
@@ -139,21 +140,22 @@ impl Queue {
         }
     }
 
-    fn swap_tail<J: Named>(&self, seat: &mut QueueSeat, turn: &Turn) -> Option<Turn>
-        requires { MayStep self.now (seat_as seat.old) turn.now J.own }
+    fn swap_tail<J: Asking>(&self, seat: &mut QueueSeat, turn: &Turn) -> Option<Turn>
+        requires may { MayCall self.now (seat_as seat.old) turn.now }
+        requires asked { J.ask ≡ Ask_enter turn.now }
         ensures tail { IsTail self.now.threads result }
         ensures call { seat.new ≡ seat_with seat.old (enter_call turn.now result) }
     {
         let word = self
             .board
             .shared
-            .swap::<board::Enter<J>>(&mut seat.place, 0, turn.to_word());
+            .swap::<Call<J>>(&mut seat.place, 0, turn.to_word());
         Turn::from_word(word)
     }
 
-    fn store_link<J: Named>(&self, seat: &mut QueueSeat, before: &Turn, own: &Turn)
+    fn store_link<J: Asking>(&self, seat: &mut QueueSeat, before: &Turn, own: &Turn)
         requires may { MayLinkBehind self.now seat.old before.now own.now }
-        requires picked { (before.now ≡ J.before) × (own.now ≡ J.own) }
+        requires asked { J.ask ≡ Ask_link before.now own.now }
         ensures call { seat.new ≡ seat_with seat.old (Link before.now own.now) }
     {
         let link = Linked {
@@ -163,29 +165,28 @@ impl Queue {
         let place = before.thread as usize + 1;
         self.board
             .shared
-            .store::<board::Link<J>>(&mut seat.place, place, link.to_word());
+            .store::<Call<J>>(&mut seat.place, place, link.to_word());
     }
 
-    fn load_link<J: Named>(&self, seat: &mut QueueSeat, own: &Turn) -> Option<Linked>
-        requires { MayStep self.now (seat_as seat.old) own.now J.own }
+    fn load_link<J: Asking>(&self, seat: &mut QueueSeat, own: &Turn) -> Option<Linked>
+        requires may { MayCall self.now (seat_as seat.old) own.now }
+        requires asked { J.ask ≡ Ask_next own.now }
         ensures link { IsLink self.now.threads result }
         ensures call { seat.new ≡ seat_with seat.old (next_call own.now result) }
     {
         let place = own.thread as usize + 1;
-        let word = self
-            .board
-            .shared
-            .load::<board::Next<J>>(&mut seat.place, place);
+        let word = self.board.shared.load::<Call<J>>(&mut seat.place, place);
         Linked::from_word(word)
     }
 
-    fn clear_tail<J: Named>(&self, seat: &mut QueueSeat, own: &Turn) -> Option<Turn>
-        requires { MayStep self.now (seat_as seat.old) own.now J.own }
+    fn clear_tail<J: Asking>(&self, seat: &mut QueueSeat, own: &Turn) -> Option<Turn>
+        requires may { MayCall self.now (seat_as seat.old) own.now }
+        requires asked { J.ask ≡ Ask_leave own.now }
         ensures tail { IsTail self.now.threads result }
         ensures call { seat.new ≡ seat_with seat.old (leave_call own.now result) }
     {
         let shared = &self.board.shared;
-        let word = shared.compare_exchange::<board::Leave<J>>(&mut seat.place, 0, own.to_word(), 0);
+        let word = shared.compare_exchange::<Call<J>>(&mut seat.place, 0, own.to_word(), 0);
         Turn::from_word(word)
     }
 }

@@ -13,13 +13,15 @@ const TURNS: u64 = 1 << 30;
 /// one.
 #[derive(Clone, Copy)]
 pub struct Linked {
+    /// The number of the turn before.
     pub before: u64,
+    /// The turn behind it.
     pub behind: Turn,
 }
 
 impl Turn {
     /// The word of a turn.
-    pub(crate) fn to_word(&self) -> u64
+    pub fn to_word(&self) -> u64
         requires { IsTurn 64 self.now }
         ensures { result ≡ turn_word self.now }
     {
@@ -27,7 +29,7 @@ impl Turn {
     }
 
     /// The turn of a word.
-    pub(crate) fn from_word(word: u64) -> Option<Turn>
+    pub fn from_word(word: u64) -> Option<Turn>
         ensures { result ≡ turn_at word }
     {
         if word == 0 {
@@ -42,7 +44,7 @@ impl Turn {
 
 impl Linked {
     /// The word of a link.
-    pub(crate) fn to_word(&self) -> u64
+    pub fn to_word(&self) -> u64
         requires { IsLinked 64 self.now }
         ensures { result ≡ link_word self.now }
     {
@@ -50,7 +52,7 @@ impl Linked {
     }
 
     /// The link of a word.
-    pub(crate) fn from_word(word: u64) -> Option<Linked>
+    pub fn from_word(word: u64) -> Option<Linked>
         ensures { result ≡ link_at word }
     {
         if word == 0 {

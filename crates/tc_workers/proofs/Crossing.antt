@@ -3,7 +3,7 @@ use denote.RattleType.{RattleType}
 use denote.Ref.{NamedLft}
 use denote.Param.Send.{IsSend, IsSync, sendable}
 use Rattle.std.proofs.Crossing.{crosses}
-use Rattle.tc_queue.specs.declared.waiters.Waiters.{Ghosts}
+use Rattle.tc_order.specs.declared.order.Order.{Ghosts}
 use Rattle.tc_hall.proofs.Crossing.{image_sync, hall_sync, package_send, pass_send}
 use Rattle.tc_combiner.specs.contracts.desk.Desk as Desk
 use Rattle.tc_combiner.specs.contracts.desk.Bench as Bench

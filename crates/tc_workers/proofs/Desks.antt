@@ -137,9 +137,9 @@ one_claimed b d o p q from t h is own came =
     let got = subst (λ (z : PassView). IsSamePass z p × Gets (origin_code from) t q z.knows p.knows) is (own, came) in
     let gets = got.1 in
     let out = claimed_out (origin_code from) t q d.pass.knows p.knows (out_alone d.pass.knows [] d.aside h.free h.desk.seat.out) gets in record {
-      seat = seated b [] (Pack q ∷ []) d p d.sleepers d.now d.aside h.desk.seat (still_called [] d.pass p got.0 gets.called) refl (λ c e. e) (subst (λ (a : Option PackageView). HasOut p.knows (Pack q ∷ packed a)) (sym h.free) out);
+      seat = seated b [] (Pack q ∷ []) d p d.sleepers d.now d.aside h.desk.seat (still_called _ d.pass p got.0 gets.called) refl (λ c e. e) (subst (λ (a : Option PackageView). HasOut p.knows (Pack q ∷ packed a)) (sym h.free) out);
       free = h.free;
-      uncut = ap was_cut (same_last [] d.pass.knows p.knows gets.called) ∙ h.desk.next;
+      uncut = ap was_cut (same_last _ d.pass.knows p.knows gets.called) ∙ h.desk.next;
       back = record { of = gets.of ∙ sym gets.called.image; settled = gets.settled; runs = gets.order.runs (origin_runs from); locks = gets.order.own; fits = λ e. gets.fits e p.knows.worker };
       pinned = λ e. (t, gets.pinned e);
     }

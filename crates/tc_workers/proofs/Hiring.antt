@@ -7,6 +7,7 @@ use Rattle.tc_elf.specs.Shown.{Shown}
 use Rattle.tc_journal.specs.Handing.{was_cut}
 use Rattle.tc_mutex_spec.proofs.ListLaws.{there}
 use Rattle.tc_queue.specs.Lines.{SeatView}
+use Rattle.tc_queue.specs.View.{QueueView}
 use Rattle.tc_hall.specs.declared.board.Knows.{Knows}
 use Rattle.tc_hall.specs.Made.{AreDealt}
 use Rattle.tc_hall.specs.Outs.{nothing, outs}
@@ -20,7 +21,7 @@ use Rattle.tc_ready.proofs.Crews.{last_all}
 use Rattle.tc_ready.specs.ReadyView.{ReadyView, AreCrew}
 use Rattle.tc_combiner.specs.View.{BenchView, AreSeats, FitsBench, desk_of}
 use Rattle.tc_workers.specs.Worker.{IsSeated, WorkerView, view_of, worker_of}
-use Rattle.tc_workers.specs.Crew.{AreForHire, AreHired, AreSeatsOf, IsBench, IsForHire, IsHired, AreAtWork}
+use Rattle.tc_workers.specs.Crew.{AreForHire, AreHired, AreLines, AreSeatsOf, IsBench, IsForHire, IsHired, AreAtWork}
 use Rattle.tc_workers.specs.declared.worker.Worker.{Worker}
 use Rattle.tc_lemmas.proofs.Lists.{at_end, at_itself, something_at}
 
@@ -137,6 +138,10 @@ module _ (b : BenchView) (rows : List (List SeatView)) (ready : List ReadyView) 
       let many = length-map ws view_of in
       let each = all.all in
       (hired_of (map view_of ws) same (subst (λ (k : ℕ). AreHired b rows ready k (map view_of ws)) (sym count) all) i (n - 1 - i) (view_of w) (at_map view_of ws i w e) (omega arith)).2.work
+
+-- the queues of all locks, as a slice has them
+pub same_lines : {X : Type 0} (image : Shown) (workers : ℕ) (qs rs : List QueueView) (seen : X → List SeatView) (xs : List X) → AreLines image workers qs seen xs → rs ≡ qs → AreLines image workers rs seen xs
+same_lines image workers qs rs seen xs lines same = subst (λ (l : List QueueView). AreLines image workers l seen xs) (sym same) lines
 
 -- all of a hall are for hire, with the rows and the ready threads of as many workers
 pub for_hire : {X : Type 0} (b : BenchView) (seen : X → List SeatView) (workers n room : ℕ) (ps : List PassView) (xs : List X) (rs : List ReadyView) → IsBench b → AreDealt b.image (length b.image.entries) (length b.image.guards) workers b.hall.table ps

@@ -1,5 +1,5 @@
 -- Rows of seats, while queues are made.
-use Rattle.std.proofs.Common.{◌≡◌, ◌≢◌, ℕ, ◌+◌, ◌<◌, ◌≤◌, List, [], ◌∷◌, ◌++◌, All, length, map, set, get_or, refl, sym, ap, ◌∙◌, subst, ⊎_elim, arith, length-append}
+use Rattle.std.proofs.Common.{◌≡◌, ◌≢◌, ℕ, true, ◌+◌, ◌<◌, ◌≤◌, List, [], ◌∷◌, ◌++◌, All, length, map, set, get_or, refl, sym, ap, ◌∙◌, subst, ⊎_elim, arith, length-append}
 use Rattle.std.proofs.lemmas.List.{map-append, length-set}
 use mathlib.Core.Option.{some, some-injective}
 use lib.ListN.{get_elem?}
@@ -7,8 +7,13 @@ use Rattle.atomic_table.proofs.Lists.{at_longer, at_last}
 use Rattle.tc_mutex_spec.proofs.ListLaws.{there, set_at}
 use Rattle.tc_queue.specs.Lines.{SeatView, IsSeatOf}
 use Rattle.tc_queue.specs.View.{QueueView}
+use Rattle.tc_elf.specs.Shown.{Shown}
+use Rattle.tc_hall.specs.declared.board.HallTerms.{HallTerms}
+use Rattle.tc_hall.specs.Rule.{locks}
+use Rattle.tc_order.specs.declared.in_hall.InHall.{InHall}
+use Rattle.tc_order.specs.Order.{AreInOrder, IsLineOf}
 use Rattle.tc_workers.specs.Crew.{AreSeatsOf}
-use Rattle.tc_workers.specs.Rows.{AreDealtOut}
+use Rattle.tc_workers.specs.Rows.{AreDealtOut, AreInPlace}
 use Rattle.tc_lemmas.proofs.Lists.{at_end, at_itself, something_at}
 
 -- a row with a seat of one queue more
@@ -121,3 +126,18 @@ queues_more n qs more q all new is i r e = ⊎_elim
     (λ (h : get_elem? qs i ≡ some r). all i r h)
     (λ (h : (i ≡ length qs) × (q ≡ r)). subst (λ (x : QueueView). x.threads ≡ n) h.1 new)
     (at_end qs q r i (sym (ap (λ (l : List QueueView). get_elem? l i) is) ∙ e))
+
+-- lines in place are each that of its number
+pub in_order : {n : ℕ} (lines : List InHall) → AreInPlace n lines → AreInOrder (λ (l : InHall) i. l.lock ≡ i) lines
+in_order lines placed i l low = (placed i (get_or lines i l) (at_itself lines i l low)).0
+
+-- and those of a hall with lines
+pub all_in_hall : (k : HallTerms) (image : Shown) (lines : List InHall) → k.lined ≡ true → k.image.value ≡ image → length lines ≡ length image.guards → AreInPlace (length image.entries) lines → All (λ l. IsLineOf k l.lock l.seats.threads) lines
+all_in_hall k image lines lined same count placed i d lt =
+    let at = placed i (get_or lines i d) (at_itself lines i d lt) in
+    let lock = at.0 in
+    let all : locks k ≡ length image.guards = ap (λ (x : Shown). length x.guards) same in record {
+      lined = lined;
+      below = omega arith;
+      all = at.1 ∙ sym (ap (λ (x : Shown). length x.entries) same);
+    }

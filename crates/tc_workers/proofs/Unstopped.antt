@@ -11,11 +11,13 @@ use Rattle.tc_journal.specs.declared.block.End.TheVariants.{Cut, Slept, Unlocked
 use Rattle.tc_context.specs.View.{PackageView}
 use Rattle.tc_hall.specs.declared.board.Knows.{Knows}
 use Rattle.tc_hall.specs.declared.board.PassCall.{PassCall}
-use Rattle.tc_hall.specs.declared.board.PassCall.TheVariants.{Look, Stopped as Seen}
+use Rattle.tc_hall.specs.declared.board.PassCall.TheVariants.{Commit, Look, Stopped as Seen}
 use Rattle.tc_hall.specs.declared.place.Origin.{Origin}
 use Rattle.tc_hall.specs.declared.place.Origin.TheVariants as origin
 use Rattle.tc_hall.specs.PassView.{PassView}
+use Rattle.tc_hall.specs.Places.{origin_code}
 use Rattle.tc_hall.specs.Rule.{threads}
+use Rattle.tc_hall.specs.Steps.{claim_call}
 use Rattle.tc_ready.specs.Scan.{looks_from}
 use Rattle.tc_combiner.specs.declared.settled.Settled.{Settled}
 use Rattle.tc_combiner.specs.declared.settled.Settled.TheVariants.{GoesOn, Parked as Did_park}
@@ -69,7 +71,7 @@ chosen origin.Ready t x y h = adds_looks x.desk.pass.knows y.desk.pass.knows h.1
 
 tried_so : (from : Origin) (t : ℕ) (v w : Knows) (s : Step) → s ≢ Stopped → IsTry from t v w s → AddsNoStop v w
 tried_so from t v w (On None) goes h = same_calls v w (ap (λ (k : Knows). k.calls) h.1.1)
-tried_so from t v w (On (Some q)) goes h = same_calls v w (h.called.calls ∙ append-nil v.calls)
+tried_so from t v w (On (Some q)) goes h = adds_one v v w (claim_call q (origin_code from)) tt (same_calls v v refl) h.called.calls
 tried_so from t v w AllDone goes h = absurd h
 tried_so from t v w Stopped goes h = absurd (goes refl)
 
@@ -104,7 +106,8 @@ settled_so end q x d e r h = of_adds h.calls d.pass.knows e.pass.knows h.adds
 went_so : (image : Shown) (p : PackageView) (x z : WorkerView) (s : Step) → s ≢ Stopped → StepsWith image p x z s → AddsNoStop x.desk.pass.knows z.desk.pass.knows
 went_so image p x z s goes (acquires a offered) = of_adds a.acquired.2.calls x.desk.pass.knows z.desk.pass.knows a.acquired.2.adds
 went_so image p x z s goes (runs want r offered) =
-    both_add x.desk.pass.knows r.between.pass.knows z.desk.pass.knows (same_calls x.desk.pass.knows r.between.pass.knows (ap (λ (v : Knows). v.calls) r.block.sealed.now))
+    both_add x.desk.pass.knows r.between.pass.knows z.desk.pass.knows
+    (adds_one x.desk.pass.knows x.desk.pass.knows r.between.pass.knows (Commit r.block.pending.context.thread r.block.stamp) tt (same_calls x.desk.pass.knows x.desk.pass.knows refl) (ap (λ (v : Knows). v.calls) r.block.sealed.now))
     (settled_so r.end r.sealed r.settled.0 r.between z.desk r.answer r.settled.2)
 went_so image p x z s goes (gives_up want q room gave is ready) = absurd (goes is)
 

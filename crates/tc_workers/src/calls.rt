@@ -7,10 +7,10 @@ ghost use Rattle.tc_workers.specs.Worker.{IsUnmoved, LookedAtStop, SawEnded, Saw
 use tc_combiner::{Bench, Desk};
 use tc_hall::hall::Hall;
 use tc_hall::pass::Pass;
-use tc_queue::Waiters;
+use tc_order::Order;
 
 /// Whether the run was stopped.
-pub fn sees_stop<Q: Waiters>(bench: &Bench<'_, Q>, desk: &mut Desk<Q>) -> bool
+pub fn sees_stop<Q: Order>(bench: &Bench<'_, Q>, desk: &mut Desk<Q>) -> bool
     requires { desk.old.pass.table ≡ bench.now.hall.table }
     ensures { LookedAtStop result desk.old desk.new }
 {

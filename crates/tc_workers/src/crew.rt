@@ -16,12 +16,12 @@ use std::sync::Wait;
 use std::thread::{Threads, join};
 use tc_combiner::{Bench, Desk};
 use tc_hall::pass::Pass;
+use tc_order::Order;
 use tc_park::Sleepers;
-use tc_queue::Waiters;
 use tc_ready::Ready;
 
 /// The worker of the pass, who has not begun.
-fn hire_one<Q: Waiters>(
+fn hire_one<Q: Order>(
     alloc: Global,
     bench: &Bench<'_, Q>,
     pass: Pass,
@@ -39,7 +39,7 @@ fn hire_one<Q: Waiters>(
 
 /// A worker for each pass, not started, with its row of seats and its ready threads. The one with
 /// the greatest number comes first.
-pub fn hire<Q: Waiters>(
+pub fn hire<Q: Order>(
     alloc: Global,
     bench: &Bench<'_, Q>,
     mut passes: Vec<Pass>,
@@ -69,7 +69,7 @@ pub fn hire<Q: Waiters>(
 }
 
 /// Runs the worker once all have begun, and rings the bell for those who sleep when it has ended.
-fn serve<R: Wait, G: Gate, Q: Waiters>(
+fn serve<R: Wait, G: Gate, Q: Order>(
     rt: &R,
     bench: &Bench<'_, Q>,
     gate: &G,
@@ -91,7 +91,7 @@ fn serve<R: Wait, G: Gate, Q: Waiters>(
 /// The caller starts one thread after another and works last itself, so that no new thread has to wait for
 /// a thread that is already at work.
 #[cycle(crew)]
-pub fn together<R: Threads + Wait + Sync, G: Gate, Q: Waiters>(
+pub fn together<R: Threads + Wait + Sync, G: Gate, Q: Order>(
     rt: &R,
     bench: &Bench<'_, Q>,
     gate: &G,

@@ -15,10 +15,10 @@ use crate::worker::Worker;
 use tc_combiner::{Bench, Desk};
 use tc_context::package::Package;
 use tc_hall::place::Origin;
-use tc_queue::Waiters;
+use tc_order::Order;
 
 /// The number of the desk's worker.
-pub(crate) fn number<Q: Waiters>(desk: &mut Desk<Q>) -> u32
+pub(crate) fn number<Q: Order>(desk: &mut Desk<Q>) -> u32
     ensures number { result ≡ desk.old.pass.knows.worker }
     ensures same { desk.new ≡ desk.old }
 {
@@ -27,7 +27,7 @@ pub(crate) fn number<Q: Waiters>(desk: &mut Desk<Q>) -> u32
 
 /// Goes on with a package that was claimed. One that is pinned to one worker comes from a stop, which
 /// the worker sees then: it puts the package back.
-fn take_up<Q: Waiters>(bench: &Bench<'_, Q>, desk: &mut Desk<Q>, package: Package) -> Step
+fn take_up<Q: Order>(bench: &Bench<'_, Q>, desk: &mut Desk<Q>, package: Package) -> Step
     requires claimed { HasClaimed bench.now «package» desk.old }
     ensures steps { DeskSteps bench.now desk.old desk.new result }
     ensures taken { IsTakenUp desk.old desk.new «package» result }
@@ -44,7 +44,7 @@ fn take_up<Q: Waiters>(bench: &Bench<'_, Q>, desk: &mut Desk<Q>, package: Packag
 }
 
 /// Claims a thread that another worker may have claimed meanwhile.
-pub fn try_claim<G: Gate, Q: Waiters>(
+pub fn try_claim<G: Gate, Q: Order>(
     bench: &Bench<'_, Q>,
     gate: &G,
     desk: &mut Desk<Q>,
@@ -68,11 +68,7 @@ pub fn try_claim<G: Gate, Q: Waiters>(
 
 /// There is nothing to do and nobody sleeps: ends where each thread is seen to have ended, and else asks
 /// for a pause before the next step.
-fn end_or_pause<Q: Waiters>(
-    bench: &Bench<'_, Q>,
-    idling: &mut Idling<'_>,
-    desk: &mut Desk<Q>,
-) -> Step
+fn end_or_pause<Q: Order>(bench: &Bench<'_, Q>, idling: &mut Idling<'_>, desk: &mut Desk<Q>) -> Step
     requires idle { IsIdle bench.now desk.old }
     requires sleepers { NoneSleeps desk.old.sleepers }
     ensures steps { DeskSteps bench.now desk.old desk.new result }
@@ -86,7 +82,7 @@ fn end_or_pause<Q: Waiters>(
 }
 
 /// There is nothing to do: moves the clock to the first sleeper.
-fn idle<Q: Waiters>(bench: &Bench<'_, Q>, idling: &mut Idling<'_>, desk: &mut Desk<Q>) -> Step
+fn idle<Q: Order>(bench: &Bench<'_, Q>, idling: &mut Idling<'_>, desk: &mut Desk<Q>) -> Step
     requires idle { IsIdle bench.now desk.old }
     ensures steps { DeskSteps bench.now desk.old desk.new result }
     ensures pause { IsPause (threads bench.now.hall.terms) desk.old desk.new result }
@@ -102,7 +98,7 @@ fn idle<Q: Waiters>(bench: &Bench<'_, Q>, idling: &mut Idling<'_>, desk: &mut De
 }
 
 /// The thread that the worker tries next, and where: a sleeper that is due, else one that is ready.
-fn choose<Q: Waiters>(
+fn choose<Q: Order>(
     bench: &Bench<'_, Q>,
     idling: &mut Idling<'_>,
     worker: &mut Worker<Q>,
@@ -121,7 +117,7 @@ fn choose<Q: Waiters>(
 }
 
 /// Tries the next thread, where there is one, else idles.
-fn seek<G: Gate, Q: Waiters>(
+fn seek<G: Gate, Q: Order>(
     bench: &Bench<'_, Q>,
     gate: &G,
     idling: &mut Idling<'_>,
@@ -139,7 +135,7 @@ fn seek<G: Gate, Q: Waiters>(
 
 /// Goes on with the package that is set aside, else with a sleeper that is due, else with a thread
 /// that is ready. Where there is none, a pause is asked for.
-pub(crate) fn find<G: Gate, Q: Waiters>(
+pub(crate) fn find<G: Gate, Q: Order>(
     bench: &Bench<'_, Q>,
     gate: &G,
     idling: &mut Idling<'_>,

@@ -1,21 +1,23 @@
 //! The queues of all locks, and their seats.
 
 ghost use Rattle.std.specs.Prelude.{◌≡◌, ◌≤◌, [], All, IfOk, OnOk, length, map};
+ghost use Rattle.tc_queue.specs.Lines.{seat_as};
 ghost use Rattle.tc_workers.specs.Crew.{AreLines};
-ghost use Rattle.tc_workers.specs.Rows.{AreDealtOut};
+ghost use Rattle.tc_workers.specs.Rows.{AreDealtOut, AreInPlace};
 
 use std::alloc::{AllocError, Global};
 use tc_elf::image::Image;
+use tc_order::{Apart, InHall};
 use tc_queue::Waiters;
-use tc_seats::QueueMaker;
+use tc_seats::{NotedSeat, QueueMaker};
 
 /// A queue for each lock, in order of number, and for each worker a row with a seat at each queue.
 #[derive(Drop)]
-pub struct Lines<Q: Waiters + Drop> {
+pub struct Lines<Q: Drop, S: Drop> {
     /// The queues, in order of lock.
     pub queues: Vec<Q>,
     /// The rows, in order of worker. A row has its seats in order of lock.
-    pub rows: Vec<Vec<Q::Seat>>,
+    pub rows: Vec<Vec<S>>,
 }
 
 /// A row without a seat for each worker.
@@ -51,7 +53,7 @@ pub fn line_up<M: QueueMaker>(
     image: &Image,
     workers: u32,
     maker: &M,
-) -> Result<Lines<M::Queue>, AllocError>
+) -> Result<Lines<M::Queue, <M::Queue as Waiters>::Seat>, AllocError>
     requires { 1 ≤ workers }
     ensures { IfOk result (λ lines. AreLines image.now workers
         (map M.Queue.queue lines.queues.items)
@@ -65,4 +67,41 @@ pub fn line_up<M: QueueMaker>(
         queues.push_reserved(queue);
     }
     Ok(Lines { queues, rows })
+}
+
+/// The lines of the image's locks in a hall with lines, with seats for so many workers.
+pub fn line_up_in_hall(
+    alloc: Global,
+    image: &Image,
+    workers: u32,
+) -> Result<Lines<InHall, NotedSeat>, AllocError>
+    requires { 1 ≤ workers }
+    ensures lines { IfOk result (λ lines. AreLines image.now workers
+        (map (λ l. l.seats) lines.queues.items) (λ row. map seat_as row.items) lines.rows.items) }
+    ensures places { IfOk result
+        (λ lines. AreInPlace (length image.now.entries) lines.queues.items) }
+{
+    let mut queues = Vec::with_capacity(alloc, image.guards() as usize)?;
+    let mut rows = empty_rows(alloc, workers)?;
+    for lock in 0..image.guards() {
+        let (line, seats) = InHall::new(alloc, lock, image.threads(), workers)?;
+        deal(&mut rows, seats)?;
+        queues.push_reserved(line);
+    }
+    Ok(Lines { queues, rows })
+}
+
+/// The queues, each apart from the hall.
+pub fn set_apart<Q: Waiters + Drop>(
+    alloc: Global,
+    queues: Vec<Q>,
+) -> Result<Vec<Apart<Q>>, AllocError>
+    ensures { IfOk result
+        (λ apart. map (λ a. Q.queue a.queue) apart.items ≡ map Q.queue queues.items) }
+{
+    let mut apart = Vec::with_capacity(alloc, queues.len())?;
+    for queue in queues {
+        apart.push_reserved(Apart { queue });
+    }
+    Ok(apart)
 }

@@ -1,10 +1,13 @@
 //! Whole runs.
 
-ghost use Rattle.std.specs.Prelude.{◌≡◌, ℕ, ◌<◌, ◌≤◌, ◌*◌, true, false, IfOk, List, MatchResult, length, map, min};
+ghost use Rattle.std.specs.Prelude.{◌≡◌, ℕ, ◌<◌, ◌≤◌, ◌*◌, true, false, All, IfOk, List};
+ghost use Rattle.std.specs.Prelude.{MatchResult, length, map, min};
 ghost use Rattle.tc_isa.specs.declared.limits.TheConstants.{MAX_FUEL};
 ghost use Rattle.tc_elf.specs.declared.limits.TheConstants.{MAX_THREADS};
+ghost use Rattle.tc_hall.specs.Made.{AreDealt, IsHallOf};
 ghost use Rattle.tc_hall.specs.Steps.{IsEnd};
 ghost use Rattle.tc_queue.specs.Lines.{SeatView};
+ghost use Rattle.tc_order.specs.Order.{AreInOrder};
 ghost use Rattle.tc_workers.specs.Crew.{AreForHire, AreLines, CrewRan, HasRun};
 ghost use Rattle.tc_workers.specs.StepWith.{CanHave};
 ghost use Rattle.tc_workers.specs.Run.{IsCrewsRun, IsWholeRun};
@@ -13,7 +16,7 @@ use crate::bell::Bell;
 use crate::crew::{hire, together};
 use crate::finished::Finished;
 use crate::gate::Gate;
-use crate::lines::{Lines, line_up};
+use crate::lines::{Lines, line_up, line_up_in_hall, set_apart};
 use std::alloc::{AllocError, Global};
 use std::sync::Wait;
 use std::thread::Threads;
@@ -23,9 +26,10 @@ use tc_hall::closed::Closed;
 use tc_hall::hall::Hall;
 use tc_hall::pass::Pass;
 use tc_isa::options::Options;
+use tc_order::Order;
 use tc_queue::Waiters;
 use tc_ready::Ready;
-use tc_seats::{ByEntry, QueueMaker};
+use tc_seats::QueueMaker;
 
 /// The most offers that there is room for. A deque uses each of its places once, and writes all of
 /// them when it is made, before the run begins.
@@ -64,7 +68,7 @@ fn finish(hall: Hall, finished: Finished) -> Result<Closed, AllocError>
 }
 
 /// Hires the workers at the bench, and lets them run until all have ended.
-fn run_at<R: Threads + Wait + Sync, Q: Waiters, G: Gate>(
+fn run_at<R: Threads + Wait + Sync, Q: Order, G: Gate>(
     rt: &R,
     alloc: Global,
     bench: &Bench<'_, Q>,
@@ -84,6 +88,44 @@ where
     let crew = hire(alloc, bench, passes, seats, ready)?;
     let bell = Bell::new(crew.len() as u64);
     Ok(together(rt, bench, gate, &bell, crew))
+}
+
+/// Runs the threads of an image to their ends in a hall that was just made, at these lines, and
+/// closes the hall.
+fn run_opened<R: Threads + Wait + Sync, Q: Order + Drop, G: Gate>(
+    rt: &R,
+    alloc: Global,
+    image: &Image,
+    options: Options,
+    opened: (Hall, Vec<Pass>),
+    lines: Lines<Q, Q::Seat>,
+    gate: &G,
+) -> Result<Closed, AllocError>
+where
+    Q::Place: Send,
+    requires hall { IsHallOf image.now options.fuel options.workers options.limit opened.0 }
+    requires passes { AreDealt image.now (length image.now.entries) (length image.now.guards)
+        options.workers opened.0.table opened.1.items }
+    requires lines { AreLines image.now options.workers (map Q.queue lines.queues.items)
+        (λ row. map Q.seen row.items) lines.rows.items }
+    requires fits { All (λ q. Q.fits q opened.0) lines.queues.items }
+    requires order { AreInOrder Q.of lines.queues.items }
+    ensures whole { IfOk result (λ closed. IsWholeRun image.now options closed) }
+    ensures crew { IfOk result (λ closed. IsCrewsRun image.now options
+        (map (λ row. map Q.seen row.items) lines.rows.items) closed) }
+{
+    let (hall, passes) = opened;
+    let Lines { queues, rows } = lines;
+    let threads = image.threads();
+    let room = room_of(threads, options.fuel);
+    let ready = Ready::crew(alloc, options.workers, threads, room)?;
+    let bench = Bench {
+        image,
+        hall: &hall,
+        queues: queues.as_slice(),
+    };
+    let finished = run_at(rt, alloc, &bench, passes, rows, ready, gate)?;
+    finish(hall, finished)
 }
 
 /// Runs the threads of an image to their ends, by so many workers in parallel, with these queues of
@@ -111,17 +153,14 @@ where
     ensures crew { IfOk result (λ closed. IsCrewsRun image.now options
         (map (λ row. map Q.seen row.items) seats.items) closed) }
 {
+    let queues = set_apart(alloc, queues)?;
     let (fuel, workers) = (options.fuel, options.workers);
-    let (hall, passes) = Hall::new(alloc, image, fuel, workers, options.limit)?;
-    let threads = image.threads();
-    let ready = Ready::crew(alloc, workers, threads, room_of(threads, fuel))?;
-    let bench = Bench {
-        image,
-        hall: &hall,
-        queues: queues.as_slice(),
+    let opened = Hall::new(alloc, image, fuel, workers, options.limit)?;
+    let lines = Lines {
+        queues,
+        rows: seats,
     };
-    let finished = run_at(rt, alloc, &bench, passes, seats, ready, gate)?;
-    finish(hall, finished)
+    run_opened(rt, alloc, image, options, opened, lines, gate)
 }
 
 /// Runs the threads of an image to their ends, by so many workers in parallel, with the maker's
@@ -148,8 +187,8 @@ where
 }
 
 /// Runs the threads of an image to their ends, by so many workers in parallel, in the order of
-/// entry. Each thread has the fuel, and the batch limit is that of the options. It may wait, as a
-/// desk may.
+/// entry: the waiters stand in the lines of the hall. Each thread has the fuel, and the batch limit
+/// is that of the options. It may wait, as a desk may.
 ///
 /// Its only error is that memory ran out.
 pub fn run_all<R: Threads + Wait + Sync, G: Gate>(
@@ -163,5 +202,8 @@ pub fn run_all<R: Threads + Wait + Sync, G: Gate>(
     ensures crew { IfOk result (λ closed. (rows : List (List SeatView))
         × IsCrewsRun image.now options rows closed) }
 {
-    run_made(rt, alloc, image, options, &ByEntry, gate)
+    let (fuel, workers) = (options.fuel, options.workers);
+    let opened = Hall::with_lines(alloc, image, fuel, workers, options.limit)?;
+    let lines = line_up_in_hall(alloc, image, workers)?;
+    run_opened(rt, alloc, image, options, opened, lines, gate)
 }

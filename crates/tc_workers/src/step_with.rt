@@ -17,7 +17,7 @@ use tc_combiner::{Bench, Desk, Settled};
 use tc_context::package::Package;
 use tc_elf::image::Image;
 use tc_journal::block::End;
-use tc_queue::Waiters;
+use tc_order::Order;
 use tc_ready::Ready;
 
 /// The lock that the package wants, if it is not granted to it.
@@ -83,7 +83,7 @@ fn conclude<G: Gate>(
 }
 
 /// Takes this lock, which the package wants, or ships the package.
-fn ask_for_lock<R: Wait, G: Gate, Q: Waiters>(
+fn ask_for_lock<R: Wait, G: Gate, Q: Order>(
     rt: &R,
     bench: &Bench<'_, Q>,
     gate: &G,
@@ -118,7 +118,7 @@ fn run_one(package: &mut Package, image: &Image) -> Result<End, AllocError>
 }
 
 /// Makes room for a block of the package, runs it and seals it.
-pub fn seal_block<Q: Waiters>(
+pub fn seal_block<Q: Order>(
     bench: &Bench<'_, Q>,
     desk: &mut Desk<Q>,
     package: &mut Package,
@@ -137,7 +137,7 @@ pub fn seal_block<Q: Waiters>(
 }
 
 /// Memory was refused: stops the others first, and then puts all back.
-fn give_up<Q: Waiters>(bench: &Bench<'_, Q>, desk: &mut Desk<Q>, package: Package)
+fn give_up<Q: Order>(bench: &Bench<'_, Q>, desk: &mut Desk<Q>, package: Package)
     requires work { IsAtDesk bench.now (Some «package») desk.old }
     ensures { GivesUp «package» desk.old desk.new }
 {
@@ -147,7 +147,7 @@ fn give_up<Q: Waiters>(bench: &Bench<'_, Q>, desk: &mut Desk<Q>, package: Packag
 
 /// Acquires the lock that the package wants, where it is not granted; else runs a block of it, where
 /// there is room for one, and settles it.
-pub(crate) fn step_with<R: Wait, G: Gate, Q: Waiters>(
+pub(crate) fn step_with<R: Wait, G: Gate, Q: Order>(
     rt: &R,
     bench: &Bench<'_, Q>,
     gate: &G,

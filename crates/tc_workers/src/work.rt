@@ -21,13 +21,13 @@ use std::ops::ControlFlow::{Break, Continue};
 use std::sync::Wait;
 use tc_combiner::Bench;
 use tc_context::package::Package;
-use tc_queue::Waiters;
+use tc_order::Order;
 
 /// Begins a step: looks at STOP, and continues with the package in hand. Where the worker has none, or
 /// sees the stop, this is the whole step: it finds one, or leaves.
 /// Always inlined into `begin`, which calls it twice.
 #[inline(always)]
-fn begin_step<G: Gate, Q: Waiters>(
+fn begin_step<G: Gate, Q: Order>(
     bench: &Bench<'_, Q>,
     gate: &G,
     idling: &mut Idling<'_>,
@@ -53,7 +53,7 @@ fn begin_step<G: Gate, Q: Waiters>(
 
 /// Begins a step. Where it finds a package, that is a whole step, and the next one is begun with it at
 /// once, unless a pause was asked for: so most steps cost no turn of the worker's loop.
-fn begin<G: Gate, Q: Waiters>(
+fn begin<G: Gate, Q: Order>(
     bench: &Bench<'_, Q>,
     gate: &G,
     idling: &mut Idling<'_>,
@@ -77,7 +77,7 @@ fn begin<G: Gate, Q: Waiters>(
 }
 
 /// Makes a step, or two. Where a pause was asked for, the worker pauses after it.
-fn make_step<R: Wait, G: Gate, Q: Waiters>(
+fn make_step<R: Wait, G: Gate, Q: Order>(
     rt: &R,
     bench: &Bench<'_, Q>,
     gate: &G,
@@ -100,7 +100,7 @@ fn make_step<R: Wait, G: Gate, Q: Waiters>(
 }
 
 /// What the end of a worker gives that has left.
-fn finished<Q: Waiters>(worker: Worker<Q>, all_done: bool) -> Finished
+fn finished<Q: Order>(worker: Worker<Q>, all_done: bool) -> Finished
     requires { HasLeft worker.desk }
     ensures pass { result.pass ≡ worker.desk.pass }
     ensures done { result.all_done ≡ all_done }
@@ -112,7 +112,7 @@ fn finished<Q: Waiters>(worker: Worker<Q>, all_done: bool) -> Finished
 
 /// Runs the worker until it has seen every thread Done, or the run is stopped. It may wait, for a
 /// lock, for a waiter, and for other workers to finish their packages.
-pub fn work<R: Wait, G: Gate, Q: Waiters>(
+pub fn work<R: Wait, G: Gate, Q: Order>(
     rt: &R,
     bench: &Bench<'_, Q>,
     gate: &G,

@@ -1,7 +1,6 @@
 -- A desk that is driven by hand, from what its worker has in hand.
 use Rattle.std.proofs.Common.{◌≡◌, ℕ, true, false, not, ◌&&◌, List, length, Option, Some, None, is_some, refl, sym, ap, ◌∙◌, subst}
 use Rattle.tc_isa.specs.Sets.{has}
-use Rattle.tc_elf.specs.Shown.{Shown}
 use Rattle.tc_journal.specs.Batch.{ends_section, ends_thread}
 use Rattle.tc_journal.specs.declared.block.Block.{Block}
 use Rattle.tc_journal.specs.declared.block.End.{End}
@@ -10,15 +9,12 @@ use Rattle.tc_context.specs.View.{PackageView, IsAfter, IsSoundPackage}
 use Rattle.tc_hall.specs.declared.board.PassCall.{PassCall}
 use Rattle.tc_hall.specs.PassView.{PassView}
 use Rattle.tc_hall.specs.Steps.{IsSamePass, with_call}
-use Rattle.tc_queue.specs.Lines.{SeatView}
-use Rattle.tc_queue.specs.View.{QueueView}
 use Rattle.tc_combiner.specs.Packages.{Runs}
 use Rattle.tc_combiner.specs.Settling.{IsAfterBlock, MayAcquire}
 use Rattle.tc_combiner.specs.View.{BenchView, DeskView, FitsBench}
 use Rattle.tc_combiner.proofs.Settling.{after_of, wants_ends, wants_lock}
 use Rattle.tc_workers.specs.declared.step.Step.{Step}
 use Rattle.tc_workers.specs.declared.step.Step.TheVariants.{On}
-use Rattle.tc_workers.specs.Crew.{AreLines}
 use Rattle.tc_workers.specs.Worker.{HasSealed, IsAtDesk, IsStep, IsUnmoved}
 use Rattle.tc_workers.proofs.Desks.{at_still, other_sleepers, with_pass}
 use Rattle.tc_workers.proofs.Passes.{unmoved_call}
@@ -77,7 +73,3 @@ may_acquire b i q d sound sealed =
           after.held j ∙ (λ t. has_it t && not (goes_on t));
       wants = ap is_some (wants_lock b.image d.pass.knows.worker i x q sound m runs);
     }
-
--- the queues of all locks, as a slice has them
-pub same_lines : {X : Type 0} (image : Shown) (workers : ℕ) (qs rs : List QueueView) (seen : X → List SeatView) (xs : List X) → AreLines image workers qs seen xs → rs ≡ qs → AreLines image workers rs seen xs
-same_lines image workers qs rs seen xs lines same = subst (λ (l : List QueueView). AreLines image workers l seen xs) (sym same) lines

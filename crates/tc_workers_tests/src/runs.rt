@@ -1,6 +1,7 @@
 //! Whole runs, by one worker alone and by several in parallel.
 
-ghost use Rattle.std.specs.Prelude.{◌≤◌};
+ghost use Rattle.std.specs.Prelude.{◌≤◌, length};
+ghost use Rattle.tc_elf.specs.declared.limits.TheConstants.{MAX_FILE};
 ghost use Rattle.tc_isa.specs.declared.limits.TheConstants.{MAX_WORKERS};
 
 use crossbeam_utils::atomic::AtomicCell;
@@ -10,6 +11,7 @@ use std::sync::Wait;
 use std::test::Fail;
 use std::thread::Threads;
 use tc_build::build::build;
+use tc_context::package::Package;
 use tc_elf::load::load;
 use tc_hall::closed::Closed;
 use tc_turn::status::Status;
@@ -41,20 +43,36 @@ impl Gate for Counting {
     }
 }
 
+/// What a run of a file's threads leaves.
+fn closed_of<R: Threads + Wait + Sync, G: Gate>(
+    rt: &R,
+    alloc: Global,
+    file: &[u8],
+    options: Options,
+    gate: &G,
+) -> Result<Closed, Fail>
+    requires { length file.now ≤ MAX_FILE }
+{
+    let image = load(alloc, file)?;
+    Ok(run_all(rt, alloc, &image, options, gate)?)
+}
+
+/// What holds at the end of a thread of COUNT.
+fn has_counted(package: &Package) -> bool {
+    package.status() == Status::Exited && package.fuel() == 896 && package.log().len() == 201
+}
+
 /// Checks what holds at the end of every run of two threads of COUNT, and that the workers
 /// committed its blocks.
 fn check_count<R: Abort>(rt: &R, closed: &Closed, committed: u32) {
+    assert!(rt; closed.packages().len() == 2);
     for package in closed.packages() {
-        assert!(rt; package.status() == Status::Exited);
-        assert_eq!(rt; package.fuel(), 896);
-        assert_eq!(rt; package.log().len(), 201);
+        assert!(rt; has_counted(package));
     }
-    assert_eq!(rt; closed.packages().len(), 2);
-    assert_eq!(rt; committed, 402);
-    assert_eq!(rt; closed.locks().len(), 1);
+    assert!(rt; committed == 402);
+    assert!(rt; closed.locks().len() == 1);
     for lock in closed.locks() {
-        assert_eq!(rt; lock.sections(), 200);
-        assert!(rt; !lock.broken());
+        assert!(rt; lock.sections() == 200 && !lock.broken());
         assert!(rt; lock.bytes() == [0xc8, 0, 0, 0].as_slice());
     }
 }
@@ -70,7 +88,6 @@ fn count<R: Abort + Threads + Wait + Sync>(
 {
     let entries = [(0x00100000, 0), (0x00100000, 0)];
     let file = build(alloc, &COUNT, &entries, &[0; 4], &[(0x00020000, 4)])?;
-    let image = load(alloc, &file)?;
     let options = Options {
         workers,
         fuel: 2_000,
@@ -79,7 +96,7 @@ fn count<R: Abort + Threads + Wait + Sync>(
     let gate = Counting {
         committed: AtomicCell::new(0),
     };
-    let closed = run_all(rt, alloc, &image, options, &gate)?;
+    let closed = closed_of(rt, alloc, &file, options, &gate)?;
     check_count(rt, &closed, gate.committed.load());
     Ok(())
 }
@@ -105,14 +122,13 @@ fn workers_beside_one_another_finish(rt: HostRuntime) -> Result<(), Fail> {
 fn a_long_sleep_ends(rt: HostRuntime) -> Result<(), Fail> {
     let entries = [(0x00100000, 0), (0x00100000, 0)];
     let file = build(rt.alloc(), &LONG_SLEEP, &entries, &[], &[])?;
-    let image = load(rt.alloc(), &file)?;
     let options = Options {
         workers: 1,
         fuel: 100,
         limit: 0,
     };
-    let closed = run_all(&rt, rt.alloc(), &image, options, &Open)?;
-    assert_eq!(rt; closed.packages().len(), 2);
+    let closed = closed_of(&rt, rt.alloc(), &file, options, &Open)?;
+    assert!(rt; closed.packages().len() == 2);
     for package in closed.packages() {
         assert!(rt; package.status() == Status::Exited);
     }
@@ -129,17 +145,15 @@ fn sleep_out<R: Abort + Threads + Wait + Sync>(
     requires { (1 ≤ workers) × (workers ≤ MAX_WORKERS) }
 {
     let file = build(alloc, &SLEEPS, &[(0x00100000, 0); 8], &[], &[])?;
-    let image = load(alloc, &file)?;
     let options = Options {
         workers,
         fuel: 8_191,
         limit: 8,
     };
-    let closed = run_all(rt, alloc, &image, options, &Open)?;
-    assert_eq!(rt; closed.packages().len(), 8);
+    let closed = closed_of(rt, alloc, &file, options, &Open)?;
+    assert!(rt; closed.packages().len() == 8);
     for package in closed.packages() {
-        assert!(rt; package.status() == Status::SpentFuel);
-        assert_eq!(rt; package.log().len(), 4_096);
+        assert!(rt; package.status() == Status::SpentFuel && package.log().len() == 4_096);
     }
     Ok(())
 }

@@ -2,8 +2,11 @@
 //! its own. The history of each is compared with its lines. At the end each lock is free, with
 //! these bytes in its guard, and broken or not; or a thread has it.
 
-ghost use Rattle.std.specs.Prelude.{◌≡◌, ◌<◌, None, All, IfOk, OnOk};
-ghost use Rattle.tc_workers.specs.Crew.{AreAtWork};
+ghost use Rattle.std.specs.Prelude.{◌≡◌, ◌<◌, ◌≤◌, None, All, IfOk, OnOk, length, map};
+ghost use Rattle.tc_isa.specs.declared.limits.TheConstants.{MAX_WORKERS};
+ghost use Rattle.tc_hall.specs.Made.{AreDealt};
+ghost use Rattle.tc_order.specs.Order.{AreInOrder};
+ghost use Rattle.tc_workers.specs.Crew.{AreAtWork, AreLines};
 ghost use Rattle.tc_workers.specs.StepWith.{step_of};
 ghost use Rattle.tc_workers.specs.Worker.{HasSealed, IsStep};
 ghost use Rattle.tc_workers_tests.specs.Scripts.{IsAtHall, IsPlaying};
@@ -31,13 +34,13 @@ use tc_isa::limits::{MAX_BATCH, MAX_WORKERS};
 use tc_isa::reg::Reg;
 use tc_journal::block::{Block, End};
 use tc_journal::reading::read;
-use tc_queue::Queue;
+use tc_order::Order;
 use tc_ready::Ready;
 use tc_seats::ByEntry;
 use tc_workers::Open;
 use tc_workers::crew::hire;
 use tc_workers::find::try_claim;
-use tc_workers::lines::{Lines, line_up};
+use tc_workers::lines::{Lines, line_up, line_up_in_hall, set_apart};
 use tc_workers::step::Step;
 use tc_workers::step_with::{next, seal_block, wanted_lock};
 use tc_workers::worker::Worker;
@@ -80,8 +83,8 @@ pub(crate) enum Action<'a> {
 /// A desk, and its worker's current package, with the end of the package's last block if that is
 /// not settled yet.
 #[derive(Drop)]
-pub(crate) struct Player {
-    pub(crate) desk: Desk<Queue>,
+pub(crate) struct Player<Q: Order> {
+    pub(crate) desk: Desk<Q>,
     pub(crate) hand: Option<Package>,
     pub(crate) end: Option<End>,
 }
@@ -99,10 +102,10 @@ fn is_as(settled: &Settled, action: Action<'_>) -> bool {
 }
 
 /// Claims a thread.
-fn claim_thread<R: Abort>(
+fn claim_thread<R: Abort, Q: Order>(
     rt: &R,
-    bench: &Bench<'_, Queue>,
-    player: &mut Player,
+    bench: &Bench<'_, Q>,
+    player: &mut Player<Q>,
     t: u32,
     from: Origin,
 )
@@ -120,7 +123,7 @@ fn claim_thread<R: Abort>(
 }
 
 /// Runs a block of the current package, and commits it.
-fn run_block<R: Abort>(rt: &R, bench: &Bench<'_, Queue>, player: &mut Player) -> Block
+fn run_block<R: Abort, Q: Order>(rt: &R, bench: &Bench<'_, Q>, player: &mut Player<Q>) -> Block
     requires { IsPlaying bench.now player.old.desk player.old.hand player.old.end }
     ensures { IsPlaying bench.now player.new.desk player.new.hand player.new.end }
 {
@@ -141,10 +144,10 @@ fn run_block<R: Abort>(rt: &R, bench: &Bench<'_, Queue>, player: &mut Player) ->
 }
 
 /// Takes the current package, with the end of its last block, which is to be settled.
-pub(crate) fn in_hand<R: Abort>(
+pub(crate) fn in_hand<R: Abort, Q: Order>(
     rt: &R,
-    bench: &Bench<'_, Queue>,
-    player: &mut Player,
+    bench: &Bench<'_, Q>,
+    player: &mut Player<Q>,
 ) -> (Package, End)
     requires { IsPlaying bench.now player.old.desk player.old.hand player.old.end }
     ensures sealed { HasSealed bench.now result.1 result.0 player.new.desk }
@@ -161,10 +164,10 @@ pub(crate) fn in_hand<R: Abort>(
 }
 
 /// Goes on with what comes of an answer, which is that of the action.
-fn go_on_as<R: Abort>(
+fn go_on_as<R: Abort, Q: Order>(
     rt: &R,
-    bench: &Bench<'_, Queue>,
-    player: &mut Player,
+    bench: &Bench<'_, Q>,
+    player: &mut Player<Q>,
     settled: Settled,
     action: Action<'_>,
 )
@@ -181,10 +184,10 @@ fn go_on_as<R: Abort>(
 }
 
 /// Settles the current package, and goes on with the result.
-fn settle_as<R: Abort + Wait>(
+fn settle_as<R: Abort + Wait, Q: Order>(
     rt: &R,
-    bench: &Bench<'_, Queue>,
-    player: &mut Player,
+    bench: &Bench<'_, Q>,
+    player: &mut Player<Q>,
     action: Action<'_>,
 )
     requires { IsPlaying bench.now player.old.desk player.old.hand player.old.end }
@@ -197,10 +200,10 @@ fn settle_as<R: Abort + Wait>(
 
 /// Acquires the lock that the current package wants since its last block, and goes on with the
 /// result.
-fn acquire_as<R: Abort + Wait>(
+fn acquire_as<R: Abort + Wait, Q: Order>(
     rt: &R,
-    bench: &Bench<'_, Queue>,
-    player: &mut Player,
+    bench: &Bench<'_, Q>,
+    player: &mut Player<Q>,
     action: Action<'_>,
 )
     requires { IsPlaying bench.now player.old.desk player.old.hand player.old.end }
@@ -210,28 +213,28 @@ fn acquire_as<R: Abort + Wait>(
     let End::Wants(lock) = end else {
         panic!(rt; "no lock is wanted")
     };
-    assert_eq!(rt; package.want(bench.image), Some(lock));
+    assert!(rt; package.want(bench.image) == Some(lock));
     package.keeps();
     let settled = player.desk.acquire(rt, bench, package);
     go_on_as(rt, bench, player, settled, action);
 }
 
 /// Wakes a sleeper at a turn, to which the clock is moved, and claims it.
-fn wake<R: Abort>(rt: &R, bench: &Bench<'_, Queue>, player: &mut Player, turn: u64, t: u32)
+fn wake<R: Abort, Q: Order>(rt: &R, bench: &Bench<'_, Q>, player: &mut Player<Q>, turn: u64, t: u32)
     requires { IsPlaying bench.now player.old.desk player.old.hand player.old.end }
     ensures { IsPlaying bench.now player.new.desk player.new.hand player.new.end }
 {
     assert!(rt; player.hand.is_none());
     assert!(rt; player.end.is_none());
     assert!(rt; player.desk.now() < turn);
-    assert_eq!(rt; player.desk.sleepers().least(), Some(turn));
+    assert!(rt; player.desk.sleepers().least() == Some(turn));
     player.desk.advance(turn);
-    assert_eq!(rt; player.desk.sleepers().due(turn), Some(t));
+    assert!(rt; player.desk.sleepers().due(turn) == Some(t));
     claim_thread(rt, bench, player, t, Origin::Parked);
 }
 
 /// Goes on with the package that was set aside.
-fn take_back<R: Abort>(rt: &R, bench: &Bench<'_, Queue>, player: &mut Player, t: u32)
+fn take_back<R: Abort, Q: Order>(rt: &R, bench: &Bench<'_, Q>, player: &mut Player<Q>, t: u32)
     requires { IsPlaying bench.now player.old.desk player.old.hand player.old.end }
     ensures { IsPlaying bench.now player.new.desk player.new.hand player.new.end }
 {
@@ -241,18 +244,24 @@ fn take_back<R: Abort>(rt: &R, bench: &Bench<'_, Queue>, player: &mut Player, t:
     let Some(package) = player.desk.back() else {
         panic!(rt; "no package is set aside")
     };
-    assert_eq!(rt; package.thread(), t);
+    assert!(rt; package.thread() == t);
     player.hand = Some(package);
 }
 
 /// Looks at a thread.
-fn look_at<R: Abort>(rt: &R, bench: &Bench<'_, Queue>, player: &mut Player, t: u32, word: u64)
+fn look_at<R: Abort, Q: Order>(
+    rt: &R,
+    bench: &Bench<'_, Q>,
+    player: &mut Player<Q>,
+    t: u32,
+    word: u64,
+)
     requires { IsPlaying bench.now player.old.desk player.old.hand player.old.end }
     ensures { IsPlaying bench.now player.new.desk player.new.hand player.new.end }
 {
     assert!(rt; player.end.is_none());
     assert!(rt; t < bench.image.threads());
-    assert_eq!(rt; bench.hall.look(player.desk.pass(), t), word);
+    assert!(rt; bench.hall.look(player.desk.pass(), t) == word);
 }
 
 /// Whether a register of the current package has this value.
@@ -264,10 +273,10 @@ fn reads(hand: &Option<Package>, register: u32, value: u32) -> bool {
 }
 
 /// Does one action with a desk. A block that it runs is added to the history.
-fn act<R: Abort + Wait>(
+fn act<R: Abort + Wait, Q: Order>(
     rt: &R,
-    bench: &Bench<'_, Queue>,
-    player: &mut Player,
+    bench: &Bench<'_, Q>,
+    player: &mut Player<Q>,
     history: &mut Vec<Block>,
     action: Action<'_>,
 ) -> Result<(), AllocError>
@@ -282,14 +291,14 @@ fn act<R: Abort + Wait>(
         }
         Action::Back(t) => take_back(rt, bench, player, t),
         Action::Wake(turn, t) => wake(rt, bench, player, turn, t),
-        Action::Tells(threads) => assert_eq!(rt; player.desk.handed(), threads),
+        Action::Tells(threads) => assert!(rt; player.desk.handed() == threads),
         Action::Looks(t, word) => look_at(rt, bench, player, t, word),
         Action::Parks(turn) => {
             settle_as(rt, bench, player, action);
-            assert_eq!(rt; player.desk.sleepers().least(), Some(turn));
+            assert!(rt; player.desk.sleepers().least() == Some(turn));
         }
         Action::Reads(register, value) => assert!(rt; reads(&player.hand, register, value)),
-        Action::Now(turn) => assert_eq!(rt; player.desk.now(), turn),
+        Action::Now(turn) => assert!(rt; player.desk.now() == turn),
         Action::Takes(_) | Action::Queues => acquire_as(rt, bench, player, action),
         _ => settle_as(rt, bench, player, action),
     }
@@ -327,11 +336,11 @@ fn image_of<R: Abort>(rt: &R, alloc: Global, script: &Script<'_>) -> Result<Imag
 }
 
 /// Gives each worker's desk to a player; the least number comes first.
-pub(crate) fn players(
+pub(crate) fn players<Q: Order>(
     alloc: Global,
-    bench: &Bench<'_, Queue>,
-    mut hired: Vec<Worker<Queue>>,
-) -> Result<Vec<Player>, AllocError>
+    bench: &Bench<'_, Q>,
+    mut hired: Vec<Worker<Q>>,
+) -> Result<Vec<Player<Q>>, AllocError>
     requires { AreAtWork bench.now hired.items }
     ensures { IfOk result (λ players. All (λ p. IsPlaying bench.now p.desk p.hand p.end)
         players.items) }
@@ -357,18 +366,18 @@ fn check_history<R: Abort>(
     lines: &str,
 ) -> Result<(), Fail> {
     let told = read(alloc, lines.as_bytes())?;
-    assert_eq!(rt; history.len(), told.len());
+    assert!(rt; history.len() == told.len());
     for (block, told) in history.iter().zip(told.iter()) {
-        assert_eq!(rt; *block, *told);
+        assert!(rt; *block == *told, "{told:?}");
     }
     Ok(())
 }
 
 /// Does the actions of a row in their order.
-fn act_all<R: Abort + Wait>(
+fn act_all<R: Abort + Wait, Q: Order>(
     rt: &R,
-    bench: &Bench<'_, Queue>,
-    player: &mut Player,
+    bench: &Bench<'_, Q>,
+    player: &mut Player<Q>,
     history: &mut Vec<Block>,
     actions: &[Action<'_>],
 ) -> Result<(), AllocError>
@@ -382,10 +391,10 @@ fn act_all<R: Abort + Wait>(
 }
 
 /// Does the rows in their order.
-pub(crate) fn follow<R: Abort + Wait>(
+pub(crate) fn follow<R: Abort + Wait, Q: Order>(
     rt: &R,
-    bench: &Bench<'_, Queue>,
-    players: &mut Vec<Player>,
+    bench: &Bench<'_, Q>,
+    players: &mut Vec<Player<Q>>,
     history: &mut Vec<Block>,
     steps: &[Row<'_>],
 ) -> Result<(), AllocError>
@@ -402,15 +411,20 @@ pub(crate) fn follow<R: Abort + Wait>(
 }
 
 /// Takes each lock that is free, and compares the bytes of its guard, and whether it is broken.
-fn check_guards<R: Abort>(rt: &R, bench: &Bench<'_, Queue>, pass: &mut Pass, script: &Script<'_>)
+fn check_guards<R: Abort, Q: Order>(
+    rt: &R,
+    bench: &Bench<'_, Q>,
+    pass: &mut Pass,
+    script: &Script<'_>,
+)
     requires { IsAtHall bench.now pass.old }
 {
-    assert_eq!(rt; bench.image.guards() as usize, script.bytes.len());
+    assert!(rt; bench.image.guards() as usize == script.bytes.len());
     for lock in 0..bench.image.guards() {
         match (bench.hall.take(pass, lock), script.bytes[lock as usize]) {
             (Ok(state), Some(bytes)) => {
                 assert!(rt; state.bytes() == bytes.as_slice());
-                assert_eq!(rt; state.broken(), script.broken);
+                assert!(rt; state.broken() == script.broken);
             }
             (Err(_), None) => {}
             (_, bytes) => panic!(rt; "lock {lock}: {bytes:?}"),
@@ -430,12 +444,12 @@ pub(crate) enum Ending<'a> {
 }
 
 /// Compares the result of a script.
-fn compare<R: Abort>(
+fn compare<R: Abort, Q: Order>(
     rt: &R,
     alloc: Global,
-    bench: &Bench<'_, Queue>,
+    bench: &Bench<'_, Q>,
     script: &Script<'_>,
-    mut players: Vec<Player>,
+    mut players: Vec<Player<Q>>,
     history: &[Block],
 ) -> Result<(), Fail>
     requires { All (λ p. IsPlaying bench.now p.desk p.hand p.end) players.items }
@@ -450,14 +464,16 @@ fn compare<R: Abort>(
 }
 
 /// Gives each worker a player, plays the script, and checks the result.
-fn perform<R: Abort + Threads + Wait + Sync>(
+fn perform<R: Abort + Threads + Wait + Sync, Q: Order>(
     rt: &R,
     alloc: Global,
-    bench: &Bench<'_, Queue>,
+    bench: &Bench<'_, Q>,
     script: &Script<'_>,
     ending: Ending<'_>,
-    hired: Vec<Worker<Queue>>,
+    hired: Vec<Worker<Q>>,
 ) -> Result<(), Fail>
+where
+    Q::Place: Send,
     requires work { AreAtWork bench.now hired.items }
 {
     if let Ending::Behind(blocks) = ending {
@@ -483,7 +499,40 @@ fn play<R: Abort + Threads + Wait + Sync>(
     play_to(rt, alloc, script, Ending::Compared)
 }
 
-/// Plays a script, which ends so.
+/// Plays a script, which ends so, in a hall that was just made, at these lines.
+fn play_at<R: Abort + Threads + Wait + Sync, Q: Order + Drop>(
+    rt: &R,
+    alloc: Global,
+    script: &Script<'_>,
+    ending: Ending<'_>,
+    image: &Image,
+    opened: (Hall, Vec<Pass>),
+    lines: Lines<Q, Q::Seat>,
+) -> Result<(), Fail>
+where
+    Q::Place: Send,
+    requires desks { (1 ≤ script.now.desks) × (script.now.desks ≤ MAX_WORKERS) }
+    requires hall { opened.0.terms.image.value ≡ image.now }
+    requires passes { AreDealt image.now (length image.now.entries) (length image.now.guards)
+        script.now.desks opened.0.table opened.1.items }
+    requires lines { AreLines image.now script.now.desks (map Q.queue lines.queues.items)
+        (λ row. map Q.seen row.items) lines.rows.items }
+    requires fits { All (λ q. Q.fits q opened.0) lines.queues.items }
+    requires order { AreInOrder Q.of lines.queues.items }
+{
+    let (hall, passes) = opened;
+    let Lines { queues, rows } = lines;
+    let ready = Ready::crew(alloc, script.desks, image.threads(), 1)?;
+    let bench = Bench {
+        image,
+        hall: &hall,
+        queues: queues.as_slice(),
+    };
+    let hired = hire(alloc, &bench, passes, rows, ready)?;
+    perform(rt, alloc, &bench, script, ending, hired)
+}
+
+/// Plays a script, which ends so: at the lines of a hall, and at queues apart from it.
 pub(crate) fn play_to<R: Abort + Threads + Wait + Sync>(
     rt: &R,
     alloc: Global,
@@ -491,18 +540,17 @@ pub(crate) fn play_to<R: Abort + Threads + Wait + Sync>(
     ending: Ending<'_>,
 ) -> Result<(), Fail> {
     let image = image_of(rt, alloc, script)?;
-    assert!(rt; 1 <= script.desks && script.desks <= MAX_WORKERS);
+    let desks = script.desks;
+    assert!(rt; 1 <= desks && desks <= MAX_WORKERS);
     assert!(rt; script.limit <= MAX_BATCH);
-    let (hall, passes) = Hall::new(alloc, &image, 100, script.desks, script.limit)?;
-    let Lines { queues, rows } = line_up(alloc, &image, script.desks, &ByEntry)?;
-    let ready = Ready::crew(alloc, script.desks, image.threads(), 1)?;
-    let bench = Bench {
-        image: &image,
-        hall: &hall,
-        queues: queues.as_slice(),
-    };
-    let hired = hire(alloc, &bench, passes, rows, ready)?;
-    perform(rt, alloc, &bench, script, ending, hired)
+    let opened = Hall::with_lines(alloc, &image, 100, desks, script.limit)?;
+    let lines = line_up_in_hall(alloc, &image, desks)?;
+    play_at(rt, alloc, script, ending, &image, opened, lines)?;
+    let opened = Hall::new(alloc, &image, 100, desks, script.limit)?;
+    let Lines { queues, rows } = line_up(alloc, &image, desks, &ByEntry)?;
+    let queues = set_apart(alloc, queues)?;
+    let lines = Lines { queues, rows };
+    play_at(rt, alloc, script, ending, &image, opened, lines)
 }
 
 /// One section, in which 1 is added to the guard's word.

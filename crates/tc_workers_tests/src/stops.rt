@@ -4,7 +4,6 @@
 
 ghost use Rattle.std.specs.Prelude.{◌≡◌, ◌<◌, All, map};
 ghost use Rattle.tc_hall.specs.Rule.{threads};
-ghost use Rattle.tc_queue.specs.Lines.{seat_as};
 ghost use Rattle.tc_workers.specs.Crew.{AreAtWork};
 ghost use Rattle.tc_workers_tests.specs.Scripts.{IsAtHall, IsKeeper, IsPlaying};
 
@@ -20,7 +19,8 @@ use tc_hall::hall::Hall;
 use tc_hall::pass::Pass;
 use tc_hall::place::OUT;
 use tc_isa::limits::MAX_WORKERS;
-use tc_queue::{Arrival, Queue, QueueSeat, Turn, Waiters};
+use tc_order::Order;
+use tc_queue::{Arrival, Turn};
 use tc_workers::bell::Bell;
 use tc_workers::crew::together;
 use tc_workers::finished::Finished;
@@ -48,27 +48,27 @@ pub(crate) struct Vain<'a> {
 }
 
 /// Enters the queue of the first lock, behind another turn, and does not link.
-fn enter_line<R: Abort, Q: Waiters>(
+fn enter_line<R: Abort, Q: Order>(
     rt: &R,
     bench: &Bench<'_, Q>,
-    pass: &Pass,
+    pass: &mut Pass,
     seats: &mut Vec<Q::Seat>,
     thread: u32,
 )
-    requires keeper { IsKeeper bench.now pass.now (map Q.seen seats.old.items) }
+    requires keeper { IsKeeper bench.now pass.old (map Q.seen seats.old.items) }
     requires thread { thread < threads bench.now.hall.terms }
+    ensures { IsAtHall bench.now pass.new }
 {
-    let _ = pass;
     assert!(rt; !seats.is_empty());
     let turn = Turn { thread, number: 1 };
-    match bench.queues[0].enter(&mut seats[0], turn) {
+    match bench.queues[0].enter(bench.hall, pass, &mut seats[0], turn) {
         Arrival::First => panic!(rt; "nobody is in the line"),
         Arrival::Behind(_) => {}
     }
 }
 
 /// Withholds from the desks what one of them will wait for.
-fn keep<R: Abort, Q: Waiters>(
+fn keep<R: Abort, Q: Order>(
     rt: &R,
     bench: &Bench<'_, Q>,
     pass: &mut Pass,
@@ -95,13 +95,13 @@ fn keep<R: Abort, Q: Waiters>(
 }
 
 /// Ends a desk: its pass, and its seats.
-pub(crate) fn keeper_of<R: Abort>(
+pub(crate) fn keeper_of<R: Abort, Q: Order>(
     rt: &R,
-    bench: &Bench<'_, Queue>,
-    player: Player,
-) -> (Pass, Vec<QueueSeat>)
+    bench: &Bench<'_, Q>,
+    player: Player<Q>,
+) -> (Pass, Vec<Q::Seat>)
     requires { IsPlaying bench.now player.desk player.hand player.end }
-    ensures { IsKeeper bench.now result.0 (map seat_as result.1.items) }
+    ensures { IsKeeper bench.now result.0 (map Q.seen result.1.items) }
 {
     let _ = bench;
     let Player {
@@ -114,7 +114,7 @@ pub(crate) fn keeper_of<R: Abort>(
 }
 
 /// Settles the current package. The run is stopped, and the wait for what comes next ends.
-fn settle_in_vain<R: Abort + Wait>(rt: &R, bench: &Bench<'_, Queue>, player: &mut Player)
+fn settle_in_vain<R: Abort + Wait, Q: Order>(rt: &R, bench: &Bench<'_, Q>, player: &mut Player<Q>)
     requires { IsPlaying bench.now player.old.desk player.old.hand player.old.end }
 {
     let (package, end) = in_hand(rt, bench, player);
@@ -127,33 +127,33 @@ fn settle_in_vain<R: Abort + Wait>(rt: &R, bench: &Bench<'_, Queue>, player: &mu
 }
 
 /// Compares the words of all threads' places.
-fn check_words<R: Abort>(rt: &R, bench: &Bench<'_, Queue>, pass: &mut Pass, words: &[u64])
+fn check_words<R: Abort, Q: Order>(rt: &R, bench: &Bench<'_, Q>, pass: &mut Pass, words: &[u64])
     requires { IsAtHall bench.now pass.old }
     ensures { IsAtHall bench.now pass.new }
 {
-    assert_eq!(rt; bench.image.threads() as usize, words.len());
+    assert!(rt; bench.image.threads() as usize == words.len());
     for t in 0..bench.image.threads() {
-        assert_eq!(rt; bench.hall.look(pass, t), words[t as usize], "thread {t}");
+        assert!(rt; bench.hall.look(pass, t) == words[t as usize], "thread {t}");
     }
 }
 
 /// Compares which locks are free.
-fn check_home<R: Abort>(rt: &R, bench: &Bench<'_, Queue>, pass: &mut Pass, home: &[bool])
+fn check_home<R: Abort, Q: Order>(rt: &R, bench: &Bench<'_, Q>, pass: &mut Pass, home: &[bool])
     requires { IsAtHall bench.now pass.old }
 {
-    assert_eq!(rt; bench.image.guards() as usize, home.len());
+    assert!(rt; bench.image.guards() as usize == home.len());
     for lock in 0..bench.image.guards() {
         let is_home = bench.hall.take(pass, lock).is_ok();
-        assert_eq!(rt; is_home, home[lock as usize], "lock {lock}");
+        assert!(rt; is_home == home[lock as usize], "lock {lock}");
     }
 }
 
 /// Stops the run while the first desk waits for what the last one withholds.
-pub(crate) fn wait_in_vain<R: Abort + Wait>(
+pub(crate) fn wait_in_vain<R: Abort + Wait, Q: Order>(
     rt: &R,
-    bench: &Bench<'_, Queue>,
+    bench: &Bench<'_, Q>,
     vain: Vain<'_>,
-    mut players: Vec<Player>,
+    mut players: Vec<Player<Q>>,
 )
     requires { All (λ p. IsPlaying bench.now p.desk p.hand p.end) players.items }
 {
@@ -204,7 +204,7 @@ impl<R: Wait + Sync> Gate for Stopping<'_, R> {
 }
 
 /// The pass of a worker that has not begun.
-fn spare<R: Abort>(rt: &R, bench: &Bench<'_, Queue>, crew: &mut Vec<Worker<Queue>>) -> Pass
+fn spare<R: Abort, Q: Order>(rt: &R, bench: &Bench<'_, Q>, crew: &mut Vec<Worker<Q>>) -> Pass
     requires { AreAtWork bench.now crew.old.items }
     ensures own { IsAtHall bench.now result }
     ensures rest { AreAtWork bench.now crew.new.items }
@@ -222,7 +222,7 @@ fn spare<R: Abort>(rt: &R, bench: &Bench<'_, Queue>, crew: &mut Vec<Worker<Queue
 }
 
 /// Checks that no package is out.
-fn check_back<R: Abort>(rt: &R, bench: &Bench<'_, Queue>, pass: &mut Pass)
+fn check_back<R: Abort, Q: Order>(rt: &R, bench: &Bench<'_, Q>, pass: &mut Pass)
     requires { IsAtHall bench.now pass.old }
 {
     for t in 0..bench.image.threads() {
@@ -231,12 +231,14 @@ fn check_back<R: Abort>(rt: &R, bench: &Bench<'_, Queue>, pass: &mut Pass)
 }
 
 /// Runs all workers but one in parallel, and stops them after so many blocks.
-pub(crate) fn stop_behind<R: Abort + Threads + Wait + Sync>(
+pub(crate) fn stop_behind<R: Abort + Threads + Wait + Sync, Q: Order>(
     rt: &R,
-    bench: &Bench<'_, Queue>,
+    bench: &Bench<'_, Q>,
     blocks: u32,
-    mut crew: Vec<Worker<Queue>>,
+    mut crew: Vec<Worker<Q>>,
 )
+where
+    Q::Place: Send,
     requires { AreAtWork bench.now crew.items }
 {
     let pass = spare(rt, bench, &mut crew);

@@ -5,7 +5,7 @@ use Rattle.tc_combiner.proofs.Seats.{at_seat}
 use Rattle.tc_combiner.proofs.ends.end_all.Goals as goal
 
 pub loop-lock-init : goal.loop-lock-init
-loop-lock-init g c = leaves_first c.args.shared.now.hall.now c.args.block.now c.args.«package».now (map g.Q.Waiters.seen c.args.seats.now) c.args.parts.now c.requires.parts c.requires.may.locks
+loop-lock-init g c = leaves_first c.args.shared.now.hall.now c.args.block.now c.args.«package».now (map g.Q.Order.seen c.args.seats.now) c.args.parts.now c.requires.parts c.requires.may.locks
 
 pub offset_bounds-shared-lock : goal.offset_bounds-shared-lock
 offset_bounds-shared-lock g c =
@@ -20,12 +20,12 @@ bounds-shared-lock g c =
 pub offset_bounds-seats-lock : goal.offset_bounds-seats-lock
 offset_bounds-seats-lock g c =
     let low : c.in-Some.lock < locks c.args.shared.now.hall.now.terms = c.requires.may.known c.in-Some.lock (c.loop-lock.invariant.within c.in-Some.lock c.in-Some.ensures.value.0) in
-    let deep : c.in-Some.lock < length c.loop-lock.seats = (let size = c.requires.seats.seats in let count = c.loop-lock.invariant.count in let old = length-map c.args.seats.now g.Q.Waiters.seen in let new = length-map c.loop-lock.seats g.Q.Waiters.seen in omega arith) in search (rules, deep)
+    let deep : c.in-Some.lock < length c.loop-lock.seats = (let size = c.requires.seats.seats in let count = c.loop-lock.invariant.count in let old = length-map c.args.seats.now g.Q.Order.seen in let new = length-map c.loop-lock.seats g.Q.Order.seen in omega arith) in search (rules, deep)
 
 pub bounds-seats-lock : goal.bounds-seats-lock
 bounds-seats-lock g c =
     let low : c.in-Some.lock < locks c.args.shared.now.hall.now.terms = c.requires.may.known c.in-Some.lock (c.loop-lock.invariant.within c.in-Some.lock c.in-Some.ensures.value.0) in
-    let size = c.requires.seats.seats in let count = c.loop-lock.invariant.count in let old = length-map c.args.seats.now g.Q.Waiters.seen in let new = length-map c.loop-lock.seats g.Q.Waiters.seen in omega arith
+    let size = c.requires.seats.seats in let count = c.loop-lock.invariant.count in let old = length-map c.args.seats.now g.Q.Order.seen in let new = length-map c.loop-lock.seats g.Q.Order.seen in omega arith
 
 pub end_one-stopped-requires-clause-may : goal.end_one-stopped-requires-clause-may
 end_one-stopped-requires-clause-may g c = λ κs b. record {
@@ -36,9 +36,9 @@ end_one-stopped-requires-clause-may g c = λ κs b. record {
 pub end_one-stopped-requires-clause-seat : goal.end_one-stopped-requires-clause-seat
 end_one-stopped-requires-clause-seat g c = λ κs b.
     let low : c.in-Some.lock < locks c.args.shared.now.hall.now.terms = c.requires.may.known c.in-Some.lock (c.loop-lock.invariant.within c.in-Some.lock c.in-Some.ensures.value.0) in
-    let deep : c.in-Some.lock < length c.loop-lock.seats = (let size = c.requires.seats.seats in let count = c.loop-lock.invariant.count in let old = length-map c.args.seats.now g.Q.Waiters.seen in let new = length-map c.loop-lock.seats g.Q.Waiters.seen in omega arith) in
+    let deep : c.in-Some.lock < length c.loop-lock.seats = (let size = c.requires.seats.seats in let count = c.loop-lock.invariant.count in let old = length-map c.args.seats.now g.Q.Order.seen in let new = length-map c.loop-lock.seats g.Q.Order.seen in omega arith) in
     let wait = c.loop-lock.invariant.wait c.in-Some.lock c.in-Some.ensures.value.0 in
-    seat_in g.Q.Waiters.seen g.Q.Waiters.queue c.args.shared.now.hall.now.terms c.args.shared.now.queues.now c.args.seats.now c.loop-lock.seats c.in-Some.lock c.index-shared-lock.result c.index-seats-lock.result c.index-seats-lock.is c.requires.seats.of wait low deep
+    seat_in g.Q.Order.seen g.Q.Order.queue c.args.shared.now.hall.now.terms c.args.shared.now.queues.now c.args.seats.now c.loop-lock.seats c.in-Some.lock c.index-shared-lock.result c.index-seats-lock.result c.index-seats-lock.is c.requires.seats.of wait low deep
 
 pub loop-lock-smaller : goal.loop-lock-smaller
 loop-lock-smaller g c = less_falls c.loop-lock.rest c.in-Some.lock c.less-rest.result c.less-rest.ensures.value c.in-Some.ensures.value.0
@@ -46,11 +46,11 @@ loop-lock-smaller g c = less_falls c.loop-lock.rest c.in-Some.lock c.less-rest.r
 pub loop-lock-preserved : goal.loop-lock-preserved
 loop-lock-preserved g c =
     let low : c.in-Some.lock < locks c.args.shared.now.hall.now.terms = c.requires.may.known c.in-Some.lock (c.loop-lock.invariant.within c.in-Some.lock c.in-Some.ensures.value.0) in
-    let deep : c.in-Some.lock < length c.loop-lock.seats = (let size = c.requires.seats.seats in let count = c.loop-lock.invariant.count in let old = length-map c.args.seats.now g.Q.Waiters.seen in let new = length-map c.loop-lock.seats g.Q.Waiters.seen in omega arith) in
+    let deep : c.in-Some.lock < length c.loop-lock.seats = (let size = c.requires.seats.seats in let count = c.loop-lock.invariant.count in let old = length-map c.args.seats.now g.Q.Order.seen in let new = length-map c.loop-lock.seats g.Q.Order.seen in omega arith) in
     let p : Change PackageView = change c.loop-lock.«package» c.end_one-stopped.new.«package» in
     let parts : Change DeskParts = change c.loop-lock.parts c.end_one-stopped.new.parts in
     let e = c.end_one-stopped.ensures in
-    let at = at_seat g.Q.Waiters.seen (λ (s t : SeatView). DidLeave c.args.shared.now.hall.now.terms c.in-Some.lock c.args.block.now p (change s t) parts (change false c.end_one-stopped.result)) c.loop-lock.seats c.in-Some.lock c.index-seats-lock.result c.end_one-stopped.new.seat deep c.index-seats-lock.is (e.asks.table, e.asks.threads) e in
+    let at = at_seat g.Q.Order.seen (λ (s t : SeatView). DidLeave c.args.shared.now.hall.now.terms c.in-Some.lock c.args.block.now p (change s t) parts (change false c.end_one-stopped.result)) c.loop-lock.seats c.in-Some.lock c.index-seats-lock.result c.end_one-stopped.new.seat deep c.index-seats-lock.is (e.asks.table, e.asks.threads) e in
     leaves_more c.loop-lock.invariant c.if-stopped.false c.in-Some.ensures.value.0 c.in-Some.ensures.value.1 c.in-Some.ensures.bound c.less-rest.ensures.each at
 
 pub returns : goal.returns
@@ -67,3 +67,8 @@ loop-lock-preserved-then-stopped g c = leaves_home c.loop-lock.invariant c.if-st
 
 pub loop-lock-smaller-then-stopped : goal.loop-lock-smaller-then-stopped
 loop-lock-smaller-then-stopped g c = less_falls c.loop-lock.rest c.in-Some.lock c.less-rest.result c.less-rest.ensures.value c.in-Some.ensures.value.0
+
+pub end_one-stopped-requires-clause-line : goal.end_one-stopped-requires-clause-line
+end_one-stopped-requires-clause-line g c = λ κs b.
+    let low : c.in-Some.lock < locks c.args.shared.now.hall.now.terms = c.requires.may.known c.in-Some.lock (c.loop-lock.invariant.within c.in-Some.lock c.in-Some.ensures.value.0) in
+    let size = c.requires.seats.queues in c.requires.lines c.in-Some.lock c.index-shared-lock.result (omega arith)

@@ -42,21 +42,21 @@ pub returns-in-Next : goal.returns-in-Next
 returns-in-Next g c =
     let d : DidTakeOut c.args.released.lock c.take_out-state.result c.args.«package».now c.take_out-state.new.self = record { was = c.take_out-state.ensures.lock; is = c.take_out-state.ensures.is; locks = c.take_out-state.ensures.locks; rest = c.take_out-state.ensures.rest } in
     let e = c.in-Next.ensures {u = tt} in
-    passes c.args.hall.now.terms c.args.released.lock c.args.released.block.now c.take_out-state.result _ c.in-Next.next c.args.«package».now c.take_out-state.new.self (g.Q.Waiters.seen c.args.seat.now) (g.Q.Waiters.seen c.find_next.new.seat) c.args.parts.now _ c.grant_next.new.parts c.grant_next.result d e.acts refl refl
+    passes c.args.hall.now.terms c.args.released.lock c.args.released.block.now c.take_out-state.result _ c.in-Next.next c.args.«package».now c.take_out-state.new.self (g.Q.Order.seen c.args.seat.now) (g.Q.Order.seen c.find_next.new.seat) c.args.parts.now _ c.grant_next.new.parts c.grant_next.result d e.acts refl refl
     (let f = c.thread.ensures in let h = c.number_of.ensures.is in cc) e.looks.2.0 e.looks e.found.0 c.grant_next.ensures
 
 pub returns-in-Nobody : goal.returns-in-Nobody
 returns-in-Nobody g c =
     let d : DidTakeOut c.args.released.lock c.take_out-state.result c.args.«package».now c.take_out-state.new.self = record { was = c.take_out-state.ensures.lock; is = c.take_out-state.ensures.is; locks = c.take_out-state.ensures.locks; rest = c.take_out-state.ensures.rest } in
     let e = c.in-Nobody.ensures {u = tt} in
-    let x = by_parts c.args.hall.now.terms c.args.«package».now (change (g.Q.Waiters.seen c.args.seat.now) (g.Q.Waiters.seen c.find_next.new.seat)) (change c.args.parts.now c.args.parts.now) in
-    frees c.args.hall.now.terms [] c.args.released.lock c.take_out-state.result _ c.args.«package».now c.take_out-state.new.self (g.Q.Waiters.seen c.args.seat.now) (g.Q.Waiters.seen c.find_next.new.seat) c.args.parts.now _ c.find_next.new.pass
+    let x = by_parts c.args.hall.now.terms c.args.«package».now (change (g.Q.Order.seen c.args.seat.now) (g.Q.Order.seen c.find_next.new.seat)) (change c.args.parts.now c.args.parts.now) in
+    frees c.args.hall.now.terms [] c.args.released.lock c.take_out-state.result _ c.args.«package».now c.take_out-state.new.self (g.Q.Order.seen c.args.seat.now) (g.Q.Order.seen c.find_next.new.seat) c.args.parts.now _ c.find_next.new.pass
     (λ (u : Turn) (l : LockView) (cs : List PassCall). FollowedAs x l c.args.released.block.now u cs Went_home) d (let f = c.thread.ensures in let h = c.number_of.ensures.is in cc) e.looks.2.0 (looks_first _ _ _ _ _ e.looks) e.acts c.free.ensures refl refl refl (e.found, refl)
 
 pub returns-in-Stopped : goal.returns-in-Stopped
 returns-in-Stopped g c =
     let d : DidTakeOut c.args.released.lock c.take_out-state.result c.args.«package».now c.take_out-state.new.self = record { was = c.take_out-state.ensures.lock; is = c.take_out-state.ensures.is; locks = c.take_out-state.ensures.locks; rest = c.take_out-state.ensures.rest } in
     let e = c.in-Stopped.ensures {u = tt} in
-    let x = by_parts c.args.hall.now.terms c.args.«package».now (change (g.Q.Waiters.seen c.args.seat.now) (g.Q.Waiters.seen c.find_next.new.seat)) (change c.args.parts.now c.args.parts.now) in
-    frees c.args.hall.now.terms saw c.args.released.lock c.take_out-state.result _ c.args.«package».now c.take_out-state.new.self (g.Q.Waiters.seen c.args.seat.now) (g.Q.Waiters.seen c.find_next.new.seat) c.args.parts.now _ c.find_next.new.pass
+    let x = by_parts c.args.hall.now.terms c.args.«package».now (change (g.Q.Order.seen c.args.seat.now) (g.Q.Order.seen c.find_next.new.seat)) (change c.args.parts.now c.args.parts.now) in
+    frees c.args.hall.now.terms saw c.args.released.lock c.take_out-state.result _ c.args.«package».now c.take_out-state.new.self (g.Q.Order.seen c.args.seat.now) (g.Q.Order.seen c.find_next.new.seat) c.args.parts.now _ c.find_next.new.pass
     (λ (u : Turn) (l : LockView) (cs : List PassCall). FollowedAs x l c.args.released.block.now u cs Was_stopped) d (let f = c.thread.ensures in let h = c.number_of.ensures.is in cc) e.looks.2.0 (looks_first _ _ _ _ _ e.looks) e.acts c.free-in-Stopped.ensures refl refl refl refl

@@ -1,5 +1,5 @@
-use Rattle.std.proofs.Common.{ℕ, List, [], ◌∷◌, refl, sym, ap, ◌∙◌, subst, map, arith, length, length-set}
-use Rattle.tc_combiner.proofs.Vocabulary.{DeskView, DidNothing, DidPark, Did_park, End, GoesOn, DeskParts, IsGood, Pack, Sleeping, SettledAs, Shown, desk_of, desk_with, packed, threads}
+use Rattle.std.proofs.Common.{◌≡◌, ℕ, List, [], ◌∷◌, refl, sym, ap, ◌∙◌, subst, map, arith, length, length-set}
+use Rattle.tc_combiner.proofs.Vocabulary.{DeskView, DidNothing, DidPark, Did_park, End, EntersFirst, GoesOn, DeskParts, IsGood, Pack, Sleeping, SettledAs, Shown, desk_of, desk_with, next_turn, packed, threads}
 use Rattle.tc_combiner.proofs.Acting.{acts_none, takes_none}
 use Rattle.tc_combiner.proofs.Ending.{same_seats, seats_first}
 use Rattle.tc_combiner.proofs.Settling.{after_last, did_acquire, did_end, did_unlock, ended, keeps_of, may_ask, may_begin, may_continue, may_end, may_park, may_unlock, settled_end}
@@ -14,13 +14,18 @@ acquire_at-requires-clause-may g c = λ κs b.
 
 pub returns-in-Wants-clause-settled : goal.returns-in-Wants-clause-settled
 returns-in-Wants-clause-settled g c =
-    let before = desk_with c.args.parts.now (map g.Q.Waiters.seen c.args.seats.now) c.args.sleeping.now in
-    let after = desk_with c.acquire_at.new.parts (map g.Q.Waiters.seen c.acquire_at.new.seats) c.args.sleeping.now in
-    let did = did_acquire c.args.shared.now.hall.now.terms c.args.«package» _ _ c.args.sleeping.now.sleepers c.args.sleeping.now.clock c.args.parts.now.ready.items _ c.acquire_at.new.parts c.requires.parts.image c.in-Wants.lock c.acquire_at.result c.acquire_at.ensures in
+    let before = desk_with c.args.parts.now (map g.Q.Order.seen c.args.seats.now) c.args.sleeping.now in
+    let after = desk_with c.acquire_at.new.parts (map g.Q.Order.seen c.acquire_at.new.seats) c.args.sleeping.now in
+    let did = did_acquire c.args.shared.now.hall.now.terms c.args.«package» _ _ c.args.sleeping.now.sleepers c.args.sleeping.now.clock c.args.parts.now.ready.items _ c.acquire_at.new.parts c.requires.parts.image c.in-Wants.lock c.acquire_at.result c.acquire_at.ensures.acquired in
     (c.requires.may.0, c.requires.may.1.last, subst (λ (x : End). SettledAs x c.args.«package» c.requires.may.0 before after c.acquire_at.result) (sym c.in-Wants.is) did)
 
 pub returns-in-Wants-clause-keeps : goal.returns-in-Wants-clause-keeps
-returns-in-Wants-clause-keeps g c = keeps_of c.args.shared.now.hall.now.terms _ c.args.«package» _ _ c.args.sleeping.now c.args.sleeping.now _ c.acquire_at.new.parts _ c.acquire_at.result c.clear.ensures c.acquire_at.ensures.here.answers c.acquire_at.ensures.same refl refl
+returns-in-Wants-clause-keeps g c = keeps_of c.args.shared.now.hall.now.terms _ c.args.«package» _ _ c.args.sleeping.now c.args.sleeping.now _ c.acquire_at.new.parts _ c.acquire_at.result c.clear.ensures c.acquire_at.ensures.acquired.here.answers c.acquire_at.ensures.acquired.same refl refl
+
+pub returns-in-Wants-clause-enters : goal.returns-in-Wants-clause-enters
+returns-in-Wants-clause-enters g c = λ i e.
+    let same : c.in-Wants.lock ≡ i = cc (c.in-Wants.is, e) in
+    subst (λ n. EntersFirst (λ q. g.Q.Order.fits q c.args.shared.now.hall.now × g.Q.Order.of q n) g.Q.Order.notes (next_turn c.args.«package») c.args.parts.now.pass c.acquire_at.new.parts.pass) same c.acquire_at.ensures.enters
 
 pub unlocked_at-requires-clause-parts : goal.unlocked_at-requires-clause-parts
 unlocked_at-requires-clause-parts g c = λ κs b. may_begin c.args.shared.now.hall.now _ 2 _ c.requires.parts c.clear.ensures (omega arith)
@@ -33,14 +38,17 @@ unlocked_at-requires-clause-may g c = λ κs b.
 
 pub returns-in-Unlocked-clause-settled : goal.returns-in-Unlocked-clause-settled
 returns-in-Unlocked-clause-settled g c =
-    let before = desk_with c.args.parts.now (map g.Q.Waiters.seen c.args.seats.now) c.args.sleeping.now in
-    let after = desk_with c.unlocked_at.new.parts (map g.Q.Waiters.seen c.unlocked_at.new.seats) c.args.sleeping.now in
+    let before = desk_with c.args.parts.now (map g.Q.Order.seen c.args.seats.now) c.args.sleeping.now in
+    let after = desk_with c.unlocked_at.new.parts (map g.Q.Order.seen c.unlocked_at.new.seats) c.args.sleeping.now in
     let did = did_unlock c.args.shared.now.hall.now.terms c.args.«package» _ _ c.args.sleeping.now.sleepers c.args.sleeping.now.clock c.args.parts.now.ready.items _ c.unlocked_at.new.parts c.requires.parts.image c.in-Unlocked.lock c.last-block.result c.unlocked_at.result c.unlocked_at.ensures in
     (c.last-block.result, c.last-block.ensures, subst (λ (x : End). SettledAs x c.args.«package» c.last-block.result before after c.unlocked_at.result) (sym c.in-Unlocked.is) did)
 
 pub returns-in-Unlocked-clause-keeps : goal.returns-in-Unlocked-clause-keeps
 returns-in-Unlocked-clause-keeps g c =
     keeps_of c.args.shared.now.hall.now.terms _ c.args.«package» _ _ c.args.sleeping.now c.args.sleeping.now _ c.unlocked_at.new.parts _ c.unlocked_at.result c.clear.ensures c.unlocked_at.ensures.here.answers c.unlocked_at.ensures.same refl refl
+
+pub returns-in-Unlocked-clause-enters : goal.returns-in-Unlocked-clause-enters
+returns-in-Unlocked-clause-enters g c = λ i e. let n : ⊥ = cc (c.in-Unlocked.is, e) in absurd n
 
 pub park-requires-clause-may : goal.park-requires-clause-may
 park-requires-clause-may g c =
@@ -49,8 +57,8 @@ park-requires-clause-may g c =
 
 pub returns-in-Slept-clause-settled : goal.returns-in-Slept-clause-settled
 returns-in-Slept-clause-settled g c =
-    let before = desk_with c.args.parts.now (map g.Q.Waiters.seen c.args.seats.now) c.args.sleeping.now in
-    let after = desk_with c.park.new.parts (map g.Q.Waiters.seen c.args.seats.now) c.park.new.sleeping in
+    let before = desk_with c.args.parts.now (map g.Q.Order.seen c.args.seats.now) c.args.sleeping.now in
+    let after = desk_with c.park.new.parts (map g.Q.Order.seen c.args.seats.now) c.park.new.sleeping in
     let did : DidPark c.args.«package» before after = record { seats = refl; aside = c.park.ensures.calls.aside; adds = c.park.ensures.calls.answers.acts.adds; sleeper = ap (λ (x : Sleeping). x.sleepers) c.park.ensures.sleeper } in
     (c.requires.may.0, c.requires.may.1.last, subst (λ (x : End). SettledAs x c.args.«package» c.requires.may.0 before after Did_park) (sym c.in-Slept.is) did)
 
@@ -58,14 +66,17 @@ pub returns-in-Slept-clause-keeps : goal.returns-in-Slept-clause-keeps
 returns-in-Slept-clause-keeps g c =
     let room = ap (λ (x : Sleeping). length x.sleepers) c.park.ensures.sleeper ∙ length-set _ _ _ in
     keeps_of c.args.shared.now.hall.now.terms _ c.args.«package» _ _ c.args.sleeping.now c.park.new.sleeping _ c.park.new.parts _ Did_park c.clear.ensures c.park.ensures.calls.answers
-    (seats_first (map g.Q.Waiters.seen c.args.seats.now)) (ap (λ (x : Sleeping). x.clock) c.park.ensures.sleeper) room
+    (seats_first (map g.Q.Order.seen c.args.seats.now)) (ap (λ (x : Sleeping). x.clock) c.park.ensures.sleeper) room
+
+pub returns-in-Slept-clause-enters : goal.returns-in-Slept-clause-enters
+returns-in-Slept-clause-enters g c = λ i e. let n : ⊥ = cc (c.in-Slept.is, e) in absurd n
 
 pub returns-in-Cut-clause-settled : goal.returns-in-Cut-clause-settled
 returns-in-Cut-clause-settled g c =
     let block = c.requires.may.0 in
     let kept = after_last c.args.shared.now.hall.now.terms.image.value c.args.parts.now.pass.knows.worker c.args.end _ block c.args.«package» c.in-Cut.is c.requires.may c.requires.may.1.last in
     let good = may_continue c.args.shared.now.hall.now.terms c.args.parts.now.pass.knows.worker block c.args.«package» c.keeps.ensures.sound kept in
-    let desk : List ℕ → DeskView = λ hs. desk_of c.args.parts.now.pass (map g.Q.Waiters.seen c.args.seats.now) c.args.sleeping.now.sleepers c.args.sleeping.now.clock c.args.parts.now.aside hs in
+    let desk : List ℕ → DeskView = λ hs. desk_of c.args.parts.now.pass (map g.Q.Order.seen c.args.seats.now) c.args.sleeping.now.sleepers c.args.sleeping.now.clock c.args.parts.now.aside hs in
     let here = subst (λ (x : Shown). IsGood c.args.«package» x c.args.parts.now.pass.knows.worker) (sym c.requires.parts.image) good in
     let goes : DidNothing c.args.«package» (desk c.args.parts.now.ready.items) (desk c.clear.new.self.items) (GoesOn c.args.«package») = (refl, ap desk c.clear.ensures, here) in
     (block, c.requires.may.1.last, subst (λ (x : End). SettledAs x c.args.«package» block (desk c.args.parts.now.ready.items) (desk c.clear.new.self.items) (GoesOn c.args.«package»)) (sym c.in-Cut.is) goes)
@@ -76,7 +87,10 @@ returns-in-Cut-clause-keeps g c =
     let none = takes_none (threads c.args.shared.now.hall.now.terms) c.clear.new.self.items c.clear.new.self.items [] refl refl in
     let still = acts_none c.args.parts.now.pass (Pack c.args.«package» ∷ packed c.args.parts.now.aside) in
     let answers = keeps_answers c.args.shared.now.hall.now [] c.args.«package» h h (GoesOn c.args.«package») c.requires.parts still none refl in
-    keeps_of c.args.shared.now.hall.now.terms [] c.args.«package» _ _ c.args.sleeping.now c.args.sleeping.now h h _ (GoesOn c.args.«package») c.clear.ensures answers (seats_first (map g.Q.Waiters.seen c.args.seats.now)) refl refl
+    keeps_of c.args.shared.now.hall.now.terms [] c.args.«package» _ _ c.args.sleeping.now c.args.sleeping.now h h _ (GoesOn c.args.«package») c.clear.ensures answers (seats_first (map g.Q.Order.seen c.args.seats.now)) refl refl
+
+pub returns-in-Cut-clause-enters : goal.returns-in-Cut-clause-enters
+returns-in-Cut-clause-enters g c = λ i e. let n : ⊥ = cc (c.in-Cut.is, e) in absurd n
 
 pub ended_with-requires-clause-parts : goal.ended_with-requires-clause-parts
 ended_with-requires-clause-parts g c = λ κs b. may_begin c.args.shared.now.hall.now _ _ _ c.requires.parts c.clear.ensures (omega arith)
@@ -97,5 +111,8 @@ returns-in_default-clause-settled g c =
 
 pub returns-in_default-clause-keeps : goal.returns-in_default-clause-keeps
 returns-in_default-clause-keeps g c =
-    let same = same_seats c.last-block-in_default.result c.args.«package» (map g.Q.Waiters.seen c.args.seats.now) (map g.Q.Waiters.seen c.ended_with.new.seats) c.ended_with.ensures.became.0 in
+    let same = same_seats c.last-block-in_default.result c.args.«package» (map g.Q.Order.seen c.args.seats.now) (map g.Q.Order.seen c.ended_with.new.seats) c.ended_with.ensures.became.0 in
     keeps_of c.args.shared.now.hall.now.terms _ c.args.«package» _ _ c.args.sleeping.now c.args.sleeping.now _ c.ended_with.new.parts _ c.ended_with.result c.clear.ensures c.ended_with.ensures.answers same refl refl
+
+pub returns-in_default-clause-enters : goal.returns-in_default-clause-enters
+returns-in_default-clause-enters g c = λ i e. absurd (c.in_default.not-Wants i e)

@@ -4,7 +4,7 @@ use Rattle.tc_combiner.proofs.Seats.{at_one, at_seat}
 use Rattle.tc_combiner.proofs.settle.unlocked_at.Goals as goal
 
 pub unlocked_with-requires-clause-seat : goal.unlocked_with-requires-clause-seat
-unlocked_with-requires-clause-seat g c = λ κs b. at_one g.Q.Waiters.seen g.Q.Waiters.queue c.args.shared.now.hall.now.terms c.args.shared.now.queues.now c.args.seats.now c.args.lock c.index-shared-lock.result c.index-seats-lock.result c.requires.seats.of c.requires.may.release.lock
+unlocked_with-requires-clause-seat g c = λ κs b. at_one g.Q.Order.seen g.Q.Order.queue c.args.shared.now.hall.now.terms c.args.shared.now.queues.now c.args.seats.now c.args.lock c.index-shared-lock.result c.index-seats-lock.result c.requires.seats.of c.requires.may.release.lock
 
 pub returns : goal.returns
 returns g c =
@@ -13,4 +13,7 @@ returns g c =
     let deep : c.args.lock < length c.args.seats.now = omega arith in
     let parts = change c.args.parts.now c.unlocked_with.new.parts in
     let asks = c.unlocked_with.ensures.became.0 in
-    at_seat g.Q.Waiters.seen (λ (s t : SeatView). Unlocks c.args.shared.now.hall.now.terms c.args.lock c.args.block c.args.«package» (change s t) parts c.unlocked_with.result) c.args.seats.now c.args.lock c.index-seats-lock.result c.unlocked_with.new.seat deep c.index-seats-lock.is (asks.table, asks.threads) c.unlocked_with.ensures
+    at_seat g.Q.Order.seen (λ (s t : SeatView). Unlocks c.args.shared.now.hall.now.terms c.args.lock c.args.block c.args.«package» (change s t) parts c.unlocked_with.result) c.args.seats.now c.args.lock c.index-seats-lock.result c.unlocked_with.new.seat deep c.index-seats-lock.is (asks.table, asks.threads) c.unlocked_with.ensures
+
+pub unlocked_with-requires-clause-line : goal.unlocked_with-requires-clause-line
+unlocked_with-requires-clause-line g c = λ κs b. c.requires.lines c.args.lock c.index-shared-lock.result (let low = c.requires.may.release.lock in let size = c.requires.seats.queues in omega arith)

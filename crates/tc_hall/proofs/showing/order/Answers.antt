@@ -1,6 +1,6 @@
 use Rattle.tc_hall.proofs.Ordering.{kept_of}
 use Rattle.tc_hall.proofs.Parts.{parts}
-use Rattle.tc_hall.proofs.Exact.{exact_words}
+use Rattle.tc_hall.proofs.Exact.{exact_words, line_words}
 use Rattle.tc_hall.proofs.showing.order.Goals as goal
 
 pub returns-clause-kept : goal.returns-clause-kept
@@ -11,3 +11,6 @@ returns-clause-parts c = parts
 
 pub returns-clause-words : goal.returns-clause-words
 returns-clause-words c = exact_words
+
+pub returns-clause-lines : goal.returns-clause-lines
+returns-clause-lines c = line_words

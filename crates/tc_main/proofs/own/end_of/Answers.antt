@@ -2,7 +2,7 @@ use Rattle.std.proofs.Common.{rules, ◌≡◌, ◌≢◌, ◌+◌, ◌∙◌, r
 use Rattle.tc_io.specs.Taken.{TakesAtMost}
 use Rattle.tc_main.specs.Own.{run_words}
 use Rattle.tc_main.specs.Words.{AskFor, GuestFile, Nothing, most_of}
-use Rattle.tc_main.specs.declared.order.Order.TheVariants.{Entry}
+use Rattle.tc_main.specs.declared.policy.Policy.TheVariants.{Entry}
 use Rattle.tc_main.specs.declared.words.Command.TheVariants.{Run}
 use Rattle.tc_main.proofs.SameAsked.{one_needs}
 use Rattle.tc_main.proofs.own.end_of.Goals as goal

@@ -28,8 +28,8 @@ join-own-requires-send-F g t c κs within =
     let queue : IsSync (param 2 g.row.Q) = search (rules, sendable) in
     let gate : IsSync (param 1 g.row.G) = search (rules, sendable) in
     let rt : IsSync (param 0 g.row.R) = search (rules, sendable) in
-    let worker : IsSend (Worker.the_row (param 2 g.row.Q) (param 3 g.row.Q-Seat) (param 4 g.row.Q-Place) g.Q.Waiters) = worker_send (param 2 g.row.Q) (param 3 g.row.Q-Seat) (param 4 g.row.Q-Place) g.Q.Waiters seat in
-    let bench : (l : NamedLft) → IsSync (Bench.the_row l (param 2 g.row.Q) (param 3 g.row.Q-Seat) (param 4 g.row.Q-Place) g.Q.Waiters) = λ l. bench_sync (param 2 g.row.Q) (param 3 g.row.Q-Seat) (param 4 g.row.Q-Place) g.Q.Waiters l queue in
+    let worker : IsSend (Worker.the_row (param 2 g.row.Q) (param 3 g.row.Q-Seat) (param 4 g.row.Q-Place) g.Q.Order) = worker_send (param 2 g.row.Q) (param 3 g.row.Q-Seat) (param 4 g.row.Q-Place) g.Q.Order seat in
+    let bench : (l : NamedLft) → IsSync (Bench.the_row l (param 2 g.row.Q) (param 3 g.row.Q-Seat) (param 4 g.row.Q-Place) g.Q.Order) = λ l. bench_sync (param 2 g.row.Q) (param 3 g.row.Q-Seat) (param 4 g.row.Q-Place) g.Q.Order l queue in
     search (sendable, crosses, bench) depth 20
 
 pub join-own-requires-send-A : goal.join-own-requires-send-A

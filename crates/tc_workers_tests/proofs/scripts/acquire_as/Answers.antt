@@ -13,6 +13,6 @@ acquire-settled-requires-clause-may g c κs within =
     may_acquire c.args.bench.now c.in-Wants.lock q d c.keeps.ensures.sound (subst (λ (x : End). HasSealed c.args.bench.now x q d) c.in-Wants.is c.in_hand-package.ensures.sealed)
 
 pub go_on_as-requires-clause-step : goal.go_on_as-requires-clause-step
-go_on_as-requires-clause-step g c =
+go_on_as-requires-clause-step g c κs within =
     let done = c.acquire-settled.ensures in
     after_acquire c.args.bench.now c.in_hand-package.result.0 c.in_hand-package.new.player.desk c.acquire-settled.new.self c.acquire-settled.result done.keeps c.in_hand-package.ensures.sealed.seat c.keeps.ensures.sound (together_same _ _ c.in_hand-package.ensures.sealed.newest) done.acquired

@@ -4,7 +4,7 @@ use Rattle.tc_workers_tests.specs.Scripts.{IsPlaying}
 use Rattle.tc_workers_tests.proofs.scripts.players.Given as goal
 
 abbrev pub invariant-loop-worker : goal.invariant-loop-worker
-invariant-loop-worker l = record { work : AreAtWork l.bench l.hired.items; playing : All (λ p. IsPlaying l.bench p.desk p.hand p.end) l.players.items }
+invariant-loop-worker g l = record { work : AreAtWork l.bench l.hired.items; playing : All (λ p. IsPlaying l.bench p.desk p.hand p.end) l.players.items }
 
 abbrev pub decreases-loop-worker : goal.decreases-loop-worker
-decreases-loop-worker l = vec_len l.hired
+decreases-loop-worker g l = vec_len l.hired

@@ -4,8 +4,8 @@ use Rattle.tc_workers.proofs.Desks.{length_without}
 use Rattle.tc_workers_tests.proofs.Playing.{woken}
 use Rattle.tc_workers_tests.proofs.scripts.wake.Goals as goal
 
-pub claim_thread-requires : goal.claim_thread-requires
-claim_thread-requires g c =
+pub claim_thread-requires-after_bounds : goal.claim_thread-requires-after_bounds
+claim_thread-requires-after_bounds g c κs within =
     let none : c.args.player.now.end ≡ None = search rules in
     let empty : c.args.player.now.hand ≡ None = search rules in
     let moved = subst (λ (ss : List (Option ℕ)). c.advance.new.self ≡ record c.args.player.now.desk { sleepers = ss; now = c.args.turn }) c.sleepers.ensures.value c.advance.ensures in

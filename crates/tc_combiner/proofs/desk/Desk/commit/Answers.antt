@@ -19,7 +19,7 @@ returns-clause-moves g c =
 
 pub returns-clause-fits : goal.returns-clause-fits
 returns-clause-fits g c =
-    let d : DeskView = desk_of c.self.inside.parts.pass (map g.Q.Waiters.seen c.self.inside.seats.items) c.self.inside.sleeping.sleepers c.self.inside.sleeping.clock c.self.inside.parts.aside c.self.inside.parts.ready.items in
+    let d : DeskView = desk_of c.self.inside.parts.pass (map g.Q.Order.seen c.self.inside.seats.items) c.self.inside.sleeping.sleepers c.self.inside.sleeping.clock c.self.inside.parts.aside c.self.inside.parts.ready.items in
     let w : Knows = c.commit-stamp.new.pass.knows in
     let sealed : Moves d.pass.knows w (Pack c.requires.may.before ∷ []) (Pack c.commit-stamp.new.«package» ∷ []) = subst (λ (z : PackageView). Moves d.pass.knows w (Pack c.requires.may.before ∷ []) (Pack z ∷ [])) (sym c.commit-stamp.ensures.context)
     (sealed_moves c.args.self.now.pass.knows.image d.pass.knows w c.requires.may.before c.args.«package».now c.commit-stamp.result c.requires.may.ran c.commit-stamp.ensures.seals) in

@@ -1,41 +1,35 @@
-use Rattle.std.proofs.Common.{◌≡◌, ◌+◌, ◌≤◌, sym, ap, ◌∙◌, subst, ℕ, arith}
-use Rattle.tc_queue.specs.declared.turn.Turn.{Turn}
+use Rattle.std.proofs.Common.{◌≡◌, ℕ, Option, refl, sym, ap, ◌∙◌, subst, arith}
+use Rattle.tc_queue.specs.declared.words.Linked.{Linked}
 use Rattle.tc_queue.specs.View.{QueueView, OwnView}
 use Rattle.tc_queue.specs.Words.{IsTurn}
-use Rattle.tc_queue.specs.declared.turn.QueueCall.TheVariants.{Next}
-use Rattle.tc_queue.specs.Calls.{with_call, answer_to_next}
-use Rattle.tc_queue.proofs.Packed.{found_link}
+use Rattle.tc_queue.specs.Calls.{with_call, next_call, IsLink}
+use Rattle.tc_queue.specs.Asked.{Ask, IsFound, answered}
+use Rattle.tc_queue.specs.Steps.{Sitting}
 use Rattle.tc_queue.proofs.Keeping.{looks}
-use Rattle.tc_queue.proofs.Behind.{behind_next}
+use Rattle.tc_queue.proofs.Behind.{behind_asked}
 use Rattle.tc_queue.proofs.queue.Queue.load_link.Goals as goal
 
 pub load-word-requires : goal.load-word-requires
 load-word-requires g c =
     let own = ap (λ (s : OwnView). s.table) c.seat.view_is ∙ (c.requires.may.seat.0 ∙ sym (ap (λ (q : QueueView). q.table) c.self.view_is)) in
     let threads : c.args.self.now.threads ≡ c.self.inside.board.shared.key = sym (ap (λ (q : QueueView). q.threads) c.self.view_is) ∙ c.self.invariant.0 in
-    let same = subst (λ (n : ℕ). IsTurn n c.args.own.now) threads c.requires.may.turn in
-    let low = same.thread in
-    let turn : IsTurn c.self.inside.board.shared.key g.J.Named.own = subst (IsTurn c.self.inside.board.shared.key) c.requires.picked same in (
-      own,
-      omega (arith, c.self.invariant.0, c.self.invariant.1),
-      looks _ _ c.seat.inside.place.id c.seat.inside.place.me.0 c.seat.inside.place.me.1 g.J.Named.own _ turn (ap (λ (u : Turn). u.thread + 1) c.requires.picked),
-    )
+    let turn = subst (λ (n : ℕ). IsTurn n c.args.own.now) threads c.requires.may.turn in
+    let low = turn.thread in
+    (own, omega (arith, c.self.invariant.0, c.self.invariant.1), looks _ _ c.seat.inside.place.id c.seat.inside.place.me.0 c.seat.inside.place.me.1 g.J.Asking.ask c.args.own.now _ c.requires.asked turn refl)
 
 pub invariant_of-seat : goal.invariant_of-seat
-invariant_of-seat g c = let e = c.load-word.ensures.2 in (e.slots ∙ c.seat.invariant.0, behind_next c.seat.inside.place.me.0 c.load-word.new.seat.me.0 g.J.Named.own _ e.log c.seat.invariant.1)
+invariant_of-seat g c =
+    let e = c.load-word.ensures.2 in
+    (ap (λ (m : Sitting). m.1) e.now ∙ c.seat.invariant.0, behind_asked g.J.Asking.ask c.load-word.result c.seat.inside.place.me.0 c.load-word.new.seat.me.0 (ap (λ (m : Sitting). m.0) e.now) e.found c.seat.invariant.1)
 
 pub returns-clause-link : goal.returns-clause-link
 returns-clause-link g c =
     let e = c.load-word.ensures.2 in
     let count = ap (λ (s : OwnView). s.log.threads) c.seat.view_is ∙ c.requires.may.seat.1 in
-    let few : c.args.self.now.threads ≤ 64 = subst (λ (n : ℕ). n ≤ 64) (ap (λ (q : QueueView). q.threads) c.self.view_is) c.self.invariant.2 in
-    (found_link c.seat.inside.place.me.0.threads c.args.self.now.threads e.found c.from_word.result c.load-word.result count few e.in_range e.word_found c.from_word.ensures).1
+    subst (λ (z : ℕ × Option Linked). IsLink z.0 z.1) (λ i. (count i, sym c.from_word.ensures i)) (subst (λ (a : Ask). IsFound c.seat.inside.place.me.0.threads a c.load-word.result) c.requires.asked e.found)
 
 pub returns-clause-call : goal.returns-clause-call
 returns-clause-call g c =
-    let e = c.load-word.ensures.2 in
-    let count = ap (λ (s : OwnView). s.log.threads) c.seat.view_is ∙ c.requires.may.seat.1 in
-    let few : c.args.self.now.threads ≤ 64 = subst (λ (n : ℕ). n ≤ 64) (ap (λ (q : QueueView). q.threads) c.self.view_is) c.self.invariant.2 in
-    let same = (found_link c.seat.inside.place.me.0.threads c.args.self.now.threads e.found c.from_word.result c.load-word.result count few e.in_range e.word_found c.from_word.ensures).0 in
-    let log = e.log ∙ (λ i. with_call (c.seat.view_is i).log (Next (sym c.requires.picked i) (answer_to_next (sym c.requires.picked i) (same i)))) in
-    (λ i. record { table = (c.load-word.ensures.0 ∙ ap (λ (s : OwnView). s.table) c.seat.view_is) i; id = (c.load-word.ensures.1 ∙ ap (λ (s : OwnView). s.id) c.seat.view_is) i; log = log i })
+    let e = c.load-word.ensures in
+    let log = ap (λ (m : Sitting). m.0) e.2.now ∙ ((λ i. with_call (c.seat.view_is i).log (answered (c.requires.asked i) c.load-word.result)) ∙ ap (λ (t : Option Linked). with_call c.args.seat.now.log (next_call c.args.own.now t)) (sym c.from_word.ensures)) in
+    (λ i. record { table = (e.0 ∙ ap (λ (s : OwnView). s.table) c.seat.view_is) i; id = (e.1 ∙ ap (λ (s : OwnView). s.id) c.seat.view_is) i; log = log i })

@@ -1,6 +1,6 @@
 use Rattle.std.proofs.Common.{◌≤◌, length, vec_capacity}
 use Rattle.tc_hall.proofs.Vocabulary.{AreDealt, IsMaker}
-use Rattle.tc_hall.proofs.hall.Hall.new.Given as goal
+use Rattle.tc_hall.proofs.hall.Hall.make.Given as goal
 
 abbrev pub invariant-loop-worker : goal.invariant-loop-worker
 invariant-loop-worker l = record {

@@ -5,8 +5,8 @@ pub const MAX_PASSES: u32 = 256;
 
 /// The order in which the waiters of a lock are served.
 #[derive(Clone, Copy, Debug, PartialEq, Eq)]
-pub enum Order {
-    /// By the queues of tc_queue: in the order in which they entered the lock's queue (FIFO).
+pub enum Policy {
+    /// In the order in which they entered the lock's queue (FIFO).
     Entry,
     /// By the queues of tc_nodes: a releaser prefers a waiter that entered from its own node.
     /// Worker w is on node w modulo the number of nodes.

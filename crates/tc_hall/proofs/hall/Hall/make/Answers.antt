@@ -1,13 +1,13 @@
-use Rattle.std.proofs.Common.{◌≡◌, ◌≤◌, ◌+◌, ◌-◌, ℕ, length, replicate, sym, ap, ◌∙◌, subst, arith}
+use Rattle.std.proofs.Common.{◌≡◌, ◌≤◌, ◌+◌, ◌-◌, ◌*◌, if◌then◌else◌, ℕ, length, replicate, sym, ap, ◌∙◌, subst, arith}
 use Rattle.tc_hall.proofs.Vocabulary.{AreStocked, IsInLimits, Knows, MAX_GUARDS, MAX_THREADS, Shown, HallTerms, slot_word}
 use Rattle.tc_hall.proofs.Stepping.{splits}
 use Rattle.tc_hall.proofs.Ordering.{opens_order}
 use Rattle.tc_hall.proofs.Opening.{maker_first, maker_next, new_pass, new_made, last_pass, last_made, none_made}
-use Rattle.tc_hall.proofs.hall.Hall.new.Goals as goal
+use Rattle.tc_hall.proofs.hall.Hall.make.Goals as goal
 
 pub new-requires : goal.new-requires
 new-requires c =
-    let k : HallTerms = record { image = c.of.result; fuel = c.args.fuel; workers = c.args.workers; limit = c.args.limit } in
+    let k : HallTerms = record { image = c.of.result; fuel = c.args.fuel; workers = c.args.workers; limit = c.args.limit; lined = c.args.lined } in
     let image = c.of.ensures in
     let limits : IsInLimits k = record {
       threads = subst (λ (x : Shown). length x.entries ≤ MAX_THREADS) (sym image) (omega (arith, c.threads-threads.ensures.bound));
@@ -16,13 +16,15 @@ new-requires c =
       workers = c.requires.workers;
     } in
     opens_order k c.as_slice.result.now c.in_ok-slots.slots.items limits (subst (λ (x : Shown). AreStocked x (length x.entries) (length x.guards) c.args.fuel c.args.limit c.in_ok-slots.slots.items) (sym image) c.in_ok-slots.ensures)
-    (c.as_slice.ensures.value ∙ (c.in_ok-words.ensures.items_if_clones_equal (λ y e. e) ∙ (ap (λ (z : ℕ). replicate z 0) (c.word_of.ensures ∙ ap (λ (z : ℕ × ℕ). slot_word (z.0 + z.1)) (λ i. (c.threads.ensures.value i, c.guards.ensures.value i))) ∙ ap (λ (x : Shown). replicate (slot_word (length x.entries + length x.guards)) 0) (sym image))))
+    (c.as_slice.ensures.value ∙ (c.in_ok-words.ensures.items_if_clones_equal (λ y e. e) ∙ (ap (λ (z : ℕ). replicate z 0) (c.word_of.ensures ∙ ap (λ (z : ℕ × ℕ × ℕ). slot_word (z.0 + z.1 + z.2))
+    (λ i. (c.threads.ensures.value i, c.guards-guards.ensures.value i, (c.line_places.ensures ∙ ap (λ (n : ℕ). if c.args.lined then 2 * n else 0) c.guards-guards.ensures.value) i)))
+    ∙ ap (λ (x : Shown). replicate (slot_word (length x.entries + length x.guards + (if c.args.lined then 2 * length x.guards else 0))) 0) (sym image))))
 
 pub loop-worker-init : goal.loop-worker-init
 loop-worker-init c =
     let e = c.in-Ok.ensures.ok in
     record {
-      maker = maker_first record { image = c.of.result; fuel = c.args.fuel; workers = c.args.workers; limit = c.args.limit } c.args.image.now c.in-Ok.made.0.shared.table_id c.in-Ok.made.1 c.of.ensures e.2 e.4;
+      maker = maker_first record { image = c.of.result; fuel = c.args.fuel; workers = c.args.workers; limit = c.args.limit; lined = c.args.lined } c.args.image.now c.in-Ok.made.0.shared.table_id c.in-Ok.made.1 c.of.ensures e.2 e.4;
       made = none_made _ _ _ _ _ c.in_ok-passes.ensures.items;
       room = c.in_ok-passes.ensures.capacity;
     }
