@@ -37,17 +37,20 @@ impl Answer {
     /// Reads a line that says what the answer must be. False for any other line.
     pub fn takes(&mut self, alloc: Global, key: &str, rest: &str) -> Result<bool, AllocError> {
         match key {
-            "answer" => {
-                *self = Answer::new(alloc);
-                self.status.push_str(rest)?;
-            }
-            "|" | ">" | "..." | "or" => write!(self.lines, "{key} {rest}\n")?,
+            "answer" => self.begin(alloc, rest)?,
+            "|" | ">" | "..." | "or" => push_line(&mut self.lines, key, rest)?,
             "size" | "longer" | "blocks" | "turns" | "more" | "kinds" => {
-                write!(self.facts, "{key} {rest}\n")?
+                push_line(&mut self.facts, key, rest)?
             }
             _ => return Ok(false),
         }
         Ok(true)
+    }
+
+    /// A new answer with this status.
+    fn begin(&mut self, alloc: Global, status: &str) -> Result<(), AllocError> {
+        *self = Answer::new(alloc);
+        self.status.push_str(status)
     }
 
     /// Whether a run with so many workers fits the answer, in which `@` stands for that number.
@@ -58,16 +61,24 @@ impl Answer {
         kept: &str,
         workers: u32,
     ) -> Result<bool, AllocError> {
-        let status = status_of(alloc, ran.status)?;
-        let lines = numbered(alloc, &self.lines, workers)?;
-        let is_text = ran.text().len() == ran.written.len() || lines.as_str() == "... \n";
         Ok(
-            is_text
-                && status.as_str() == self.status.as_str()
-                && is_one_of(&lines, ran.text())
+            is_status(alloc, ran.status, &self.status)?
+                && self.has_text(alloc, ran, workers)?
                 && are_facts(alloc, &self.facts, ran, kept)?,
         )
     }
+
+    /// Whether the lines show what a run with so many workers wrote.
+    fn has_text(&self, alloc: Global, ran: &Ran, workers: u32) -> Result<bool, AllocError> {
+        let lines = numbered(alloc, &self.lines, workers)?;
+        let is_text = ran.text().len() == ran.written.len() || lines.as_str() == "... \n";
+        Ok(is_text && is_one_of(&lines, ran.text()))
+    }
+}
+
+/// Appends a line of the table.
+fn push_line(lines: &mut String, key: &str, rest: &str) -> Result<(), AllocError> {
+    write!(lines, "{key} {rest}\n")
 }
 
 /// A text with a number in place of each `@`.
@@ -81,7 +92,7 @@ pub fn numbered(alloc: Global, text: &str, number: u32) -> Result<String, AllocE
 }
 
 /// How a status is written in the table.
-pub fn status_of(alloc: Global, status: Status) -> Result<String, AllocError> {
+fn status_of(alloc: Global, status: Status) -> Result<String, AllocError> {
     match status {
         Status::Done => String::from_str(alloc, "done"),
         Status::Usage => String::from_str(alloc, "usage"),
@@ -91,6 +102,11 @@ pub fn status_of(alloc: Global, status: Status) -> Result<String, AllocError> {
         Status::OutOfMemory => String::from_str(alloc, "out-of-memory"),
         Status::Rejected(_) => String::from_str(alloc, "rejected"),
     }
+}
+
+/// Whether a status is written so in the table.
+pub fn is_status(alloc: Global, status: Status, written: &str) -> Result<bool, AllocError> {
+    Ok(status_of(alloc, status)?.as_str() == written)
 }
 
 /// Whether a line is the one that is wanted.

@@ -61,10 +61,15 @@ impl Tally {
         let agrees = row.answer.fits(alloc, &ran, &row.kept, workers)?;
         self.count(agrees, asked)?;
         if !agrees {
-            write!(self.differ, "{:?}\n{}", ran.status, ran.text())?;
+            self.show(&ran)?;
         }
         self.last = ran.written;
         Ok(())
+    }
+
+    /// Shows a run that differs.
+    fn show(&mut self, ran: &Ran) -> Result<(), AllocError> {
+        write!(self.differ, "{:?}\n{}", ran.status, ran.text())
     }
 }
 
@@ -80,6 +85,18 @@ fn ask_with<R: Threads + Wait + Sync>(
     let words = numbered(alloc, &row.words, workers)?;
     let ran = run(rt, alloc, &words, file, &row.outside)?;
     tally.compare(alloc, row, ran, &words, workers)
+}
+
+/// Asks once.
+fn ask<R: Threads + Wait + Sync>(
+    rt: &R,
+    alloc: Global,
+    row: &mut Row,
+    tally: &mut Tally,
+    words: &str,
+) -> Result<(), AllocError> {
+    row.words = String::from_str(alloc, words)?;
+    ask_with(rt, alloc, row, tally, &row.file, 1)
 }
 
 /// Asks for each number of workers.
@@ -124,6 +141,24 @@ fn changed(alloc: Global, file: &[u8], field: &str) -> Result<Vec<u8>, AllocErro
     Ok(changed)
 }
 
+/// Asks again, with some bytes of the file replaced.
+fn ask_set<R: Threads + Wait + Sync>(
+    rt: &R,
+    alloc: Global,
+    row: &Row,
+    tally: &mut Tally,
+    field: &str,
+) -> Result<(), AllocError> {
+    let file = changed(alloc, &row.file, field)?;
+    ask_with(rt, alloc, row, tally, &file, 1)
+}
+
+/// Keeps what the last run wrote.
+fn keep(alloc: Global, row: &mut Row, tally: &Tally) -> Result<(), AllocError> {
+    row.kept = String::from_str(alloc, from_utf8(&tally.last).unwrap_or(""))?;
+    Ok(())
+}
+
 /// Asks for each length of a prefix of the file.
 fn cuts<R: Threads + Wait + Sync>(
     rt: &R,
@@ -150,17 +185,11 @@ pub fn asks<R: Threads + Wait + Sync>(
 ) -> Result<bool, AllocError> {
     let (key, rest) = line;
     match key {
-        "ask" => {
-            row.words = String::from_str(alloc, rest)?;
-            ask_with(rt, alloc, row, tally, &row.file, 1)?;
-        }
+        "ask" => ask(rt, alloc, row, tally, rest)?,
         "each" => each(rt, alloc, row, tally, rest)?,
-        "keep" => row.kept = String::from_str(alloc, from_utf8(&tally.last).unwrap_or(""))?,
+        "keep" => keep(alloc, row, tally)?,
         "again" => again(rt, alloc, row, tally, rest)?,
-        "set" => {
-            let file = changed(alloc, &row.file, rest)?;
-            ask_with(rt, alloc, row, tally, &file, 1)?;
-        }
+        "set" => ask_set(rt, alloc, row, tally, rest)?,
         "cuts" => cuts(rt, alloc, row, tally, rest)?,
         _ => return Ok(false),
     }

@@ -30,6 +30,13 @@ fn push_history(alloc: Global, file: &mut Vec<u8>, report: &str) -> Result<(), A
     file.extend_from_slice(history.as_bytes())
 }
 
+/// Appends a line.
+fn push_line(file: &mut Vec<u8>, line: &str) -> Result<(), AllocError> {
+    file.extend_from_slice(line.as_bytes())?;
+    file.push(b'\n')?;
+    Ok(())
+}
+
 /// Changes the bytes of the file. False for any other line.
 fn changes(alloc: Global, row: &mut Row, key: &str, rest: &str) -> Result<bool, AllocError> {
     match key {
@@ -37,10 +44,7 @@ fn changes(alloc: Global, row: &mut Row, key: &str, rest: &str) -> Result<bool, 
         "bytes" => push_bytes(&mut row.file, rest)?,
         "length" => row.file.resize(number(rest), 0)?,
         "history" => push_history(alloc, &mut row.file, &row.kept)?,
-        "after" => {
-            row.file.extend_from_slice(rest.as_bytes())?;
-            row.file.push(b'\n')?;
-        }
+        "after" => push_line(&mut row.file, rest)?,
         _ => return Ok(false),
     }
     Ok(true)

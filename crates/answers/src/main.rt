@@ -25,6 +25,15 @@ use std::io::{self, BufRead, BufReader};
 use std::sync::Wait;
 use std::thread::Threads;
 
+/// Takes a line that says what those that ask are to ask. False for any other line.
+fn says(alloc: Global, row: &mut Row, key: &str, rest: &str) -> Result<bool, AllocError> {
+    Ok(
+        guest::makes(alloc, row, key, rest)?
+            || row.outside.takes(key, rest)
+            || row.answer.takes(alloc, key, rest)?,
+    )
+}
+
 /// Takes a line of the table, which is empty, a comment, or begins with a key.
 fn take<R: Threads + Wait + Sync>(
     rt: &R,
@@ -37,9 +46,7 @@ fn take<R: Threads + Wait + Sync>(
         return Ok(());
     }
     let (key, rest) = line.split_once(' ').unwrap_or((line, ""));
-    if guest::makes(alloc, row, key, rest)?
-        || row.outside.takes(key, rest)
-        || row.answer.takes(alloc, key, rest)?
+    if says(alloc, row, key, rest)?
         || ask::asks(rt, alloc, row, tally, (key, rest))?
         || many::asks(rt, alloc, row, tally, (key, rest))?
     {

@@ -5,7 +5,7 @@
 //! - `sinks N STATUS`: a sink takes up to N bytes in a call. If it fails in one, it has as many
 //!   pieces of the faultless text as calls came before, with this status.
 
-use crate::answer::status_of;
+use crate::answer::is_status;
 use crate::ask::Tally;
 use crate::outside::{Outside, Ran, run};
 use crate::row::{Row, number, split};
@@ -36,6 +36,24 @@ fn source<R: Threads + Wait + Sync>(
     tally.compare(alloc, row, ran, "sources", 1)
 }
 
+/// Whether a run has so many bytes of the whole one, with this status, or is as the whole one, if that
+/// has no more.
+fn is_cut(
+    alloc: Global,
+    ran: &Ran,
+    whole: &Ran,
+    count: usize,
+    cut: &str,
+) -> Result<bool, AllocError> {
+    let all = whole.written.as_slice();
+    match all.get(..count) {
+        Some(front) if front.len() < all.len() => {
+            Ok(ran.written.as_slice() == front && is_status(alloc, ran.status, cut)?)
+        }
+        _ => Ok(ran.written.as_slice() == all && ran.status == whole.status),
+    }
+}
+
 /// Asks with a sink that takes up to `most` bytes in a call, and fails in this call. Without a
 /// fault the arguments are answered as `whole` is.
 fn sink<R: Threads + Wait + Sync>(
@@ -52,13 +70,7 @@ fn sink<R: Threads + Wait + Sync>(
         ..row.outside
     };
     let ran = run(rt, alloc, &row.words, &row.file, &outside)?;
-    let all = whole.written.as_slice();
-    match all.get(..call.saturating_mul(most)) {
-        Some(front) if front.len() < all.len() => {
-            Ok(ran.written.as_slice() == front && status_of(alloc, ran.status)?.as_str() == cut)
-        }
-        _ => Ok(ran.written.as_slice() == all && ran.status == whole.status),
-    }
+    is_cut(alloc, &ran, whole, call.saturating_mul(most), cut)
 }
 
 /// Asks for each call of a source.

@@ -97,6 +97,19 @@ fn failing(alloc: Global, call: Option<u64>) -> Result<Vec<u64>, AllocError> {
     Ok(calls)
 }
 
+/// A source of this file.
+fn source_of(alloc: Global, file: &[u8], outside: &Outside) -> Result<MemSource, AllocError> {
+    let file = Vec::from_slice(alloc, file)?;
+    let calls = failing(alloc, outside.failing_read)?;
+    Ok(MemSource::new(file, outside.most.max(1), calls))
+}
+
+/// An empty sink.
+fn sink_of(alloc: Global, outside: &Outside) -> Result<MemSink, AllocError> {
+    let calls = failing(alloc, outside.failing_write)?;
+    MemSink::new(alloc, outside.room, outside.most.max(1), calls)
+}
+
 /// The top call. Its contract is not used here: the table says what the result must be.
 fn top<R: Threads + Wait + Sync, S: Source, K: Sink>(
     rt: &R,
@@ -117,11 +130,8 @@ pub fn run<R: Threads + Wait + Sync>(
     outside: &Outside,
 ) -> Result<Ran, AllocError> {
     let words = words_of(alloc, words)?;
-    let most = outside.most.max(1);
-    let file = Vec::from_slice(alloc, file)?;
-    let mut source = MemSource::new(file, most, failing(alloc, outside.failing_read)?);
-    let calls = failing(alloc, outside.failing_write)?;
-    let mut sink = MemSink::new(alloc, outside.room, most, calls)?;
+    let mut source = source_of(alloc, file, outside)?;
+    let mut sink = sink_of(alloc, outside)?;
     let status = top(rt, alloc, &words, &mut source, &mut sink);
     let written = Vec::from_slice(alloc, sink.written())?;
     Ok(Ran { status, written })

@@ -55,6 +55,20 @@ fn guards_of(alloc: Global, locks: usize) -> Result<Vec<(u32, u32)>, AllocError>
     Ok(guards)
 }
 
+/// The file of these. It is empty if there is no thread, or too much of anything.
+fn file_of(
+    alloc: Global,
+    code: &[u32],
+    entries: &[(u32, u32)],
+    guards: &[(u32, u32)],
+) -> Result<Vec<u8>, AllocError> {
+    if entries.is_empty() || entries.len() > 32 || guards.len() > 32 || code.len() > 20_000 {
+        return Ok(Vec::new(alloc));
+    }
+    let zeros = [0; 128];
+    build(alloc, code, entries, &zeros[..guards.len() * 4], guards)
+}
+
 /// A built file with the code of this text at 0x00100000, and a guard of one zero word for each
 /// lock from 0x00020000 on. The threads are `WORD` or `WORD:ARGUMENT` each: the word of code at
 /// which one begins, and its argument. It is empty if there is no thread, or too much code.
@@ -67,9 +81,5 @@ pub fn built(
     let code = code_of(alloc, code)?;
     let entries = entries_of(alloc, threads)?;
     let guards = guards_of(alloc, locks)?;
-    if entries.is_empty() || entries.len() > 32 || guards.len() > 32 || code.len() > 20_000 {
-        return Ok(Vec::new(alloc));
-    }
-    let zeros = [0; 128];
-    build(alloc, &code, &entries, &zeros[..guards.len() * 4], &guards)
+    file_of(alloc, &code, &entries, &guards)
 }

@@ -58,25 +58,28 @@ fn check_code_and_data<R: Abort>(rt: &R, image: &Image, code: u32, data: u32) {
     check_ranges(rt, image, &[code, data]);
 }
 
+/// Its threads and its guards.
+const ROUND_ENTRIES: [(u32, u32); 4] = [
+    (0x0010_0000, 0),
+    (0x0010_0030, 0),
+    (0x0010_0084, 0),
+    (0x0010_00c0, 0),
+];
+
+const ROUND_GUARDS: [(u32, u32); 4] = [
+    (0x0002_0000, 16),
+    (0x0002_0010, 16),
+    (0x0002_0020, 16),
+    (0x0002_0030, 16),
+];
+
 #[test]
 fn one_round_is_loaded_as_other_tools_write_it(rt: HostRuntime) -> Result<(), Fail> {
     let file = generate(rt.alloc(), 1)?;
     assert!(rt; file.len() == 524);
     let image = load(rt.alloc(), &file)?;
-    let entries = [
-        (0x0010_0000, 0),
-        (0x0010_0030, 0),
-        (0x0010_0084, 0),
-        (0x0010_00c0, 0),
-    ];
-    check_threads(&rt, &image, &entries);
-    let guards = [
-        (0x0002_0000, 16),
-        (0x0002_0010, 16),
-        (0x0002_0020, 16),
-        (0x0002_0030, 16),
-    ];
-    check_guards(&rt, &image, &guards);
+    check_threads(&rt, &image, &ROUND_ENTRIES);
+    check_guards(&rt, &image, &ROUND_GUARDS);
     check_code_and_data(&rt, &image, 216, 64);
     Ok(())
 }
@@ -138,37 +141,34 @@ fn a_built_file_is_loaded_as_described(rt: HostRuntime) -> Result<(), Fail> {
     Ok(())
 }
 
+/// Words of code at its addresses, and bytes.
+static BUILT_WORDS: [(u32, Option<u32>); 4] = [
+    (0x0010_0000, Some(0x05d0_0893)),
+    (0x0010_0004, Some(0x0000_0073)),
+    (0x0010_0008, None),
+    (0x0002_0000, None),
+];
+
+static BUILT_BYTES: [(u32, Option<u8>); 10] = [
+    (0x000f_ffff, None),
+    (0x0010_0000, Some(0x93)),
+    (0x0010_0003, Some(0x05)),
+    (0x0010_0004, Some(0x73)),
+    (0x0010_0008, None),
+    (0x0001_ffff, None),
+    (0x0002_0000, Some(b'a')),
+    (0x0002_000c, Some(b'm')),
+    (0x0002_0018, Some(b'y')),
+    (0x0002_0019, None),
+];
+
 #[test]
 fn a_built_file_has_its_words_and_bytes(rt: HostRuntime) -> Result<(), Fail> {
     let file = built(rt.alloc())?;
     assert!(rt; file.len() == 253);
     let image = load(rt.alloc(), &file)?;
-    check_words(
-        &rt,
-        &image,
-        &[
-            (0x0010_0000, Some(0x05d0_0893)),
-            (0x0010_0004, Some(0x0000_0073)),
-            (0x0010_0008, None),
-            (0x0002_0000, None),
-        ],
-    );
-    check_bytes(
-        &rt,
-        &image,
-        &[
-            (0x000f_ffff, None),
-            (0x0010_0000, Some(0x93)),
-            (0x0010_0003, Some(0x05)),
-            (0x0010_0004, Some(0x73)),
-            (0x0010_0008, None),
-            (0x0001_ffff, None),
-            (0x0002_0000, Some(b'a')),
-            (0x0002_000c, Some(b'm')),
-            (0x0002_0018, Some(b'y')),
-            (0x0002_0019, None),
-        ],
-    );
+    check_words(&rt, &image, &BUILT_WORDS);
+    check_bytes(&rt, &image, &BUILT_BYTES);
     Ok(())
 }
 

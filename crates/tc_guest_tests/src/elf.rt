@@ -49,6 +49,15 @@ const LINKED: [u32; 114] = [
     0x65742e00, 0x2e007478, 0x74736873, 0x62617472, 0x00000000,
 ];
 
+/// The bytes of words, little-endian.
+fn bytes_of(alloc: Global, words: &[u32]) -> Result<Vec<u8>, AllocError> {
+    let mut bytes = Vec::new(alloc);
+    for word in words {
+        bytes.extend_from_slice(&word.to_le_bytes())?;
+    }
+    Ok(bytes)
+}
+
 /// A file of these words, but for the changed ones.
 fn file(alloc: Global, words: &[u32], changes: &[(usize, u32)]) -> Result<Vec<u8>, AllocError> {
     let mut words = Vec::from_slice(alloc, words)?;
@@ -57,11 +66,7 @@ fn file(alloc: Global, words: &[u32], changes: &[(usize, u32)]) -> Result<Vec<u8
             words[at] = value;
         }
     }
-    let mut bytes = Vec::new(alloc);
-    for word in &words {
-        bytes.extend_from_slice(&word.to_le_bytes())?;
-    }
-    Ok(bytes)
+    bytes_of(alloc, &words)
 }
 
 /// The number of a file's refusal, or 0 if it is loaded.
@@ -133,13 +138,15 @@ fn a_linked_file_has_its_words(rt: HostRuntime) -> Result<(), Fail> {
     Ok(())
 }
 
-/// Asserts that a file of these words with one of them changed is refused by this number, or with
-/// 0 is loaded.
+/// The place of a word, its value, and the number of the file's refusal, or 0 if it is loaded.
+type Change = (usize, u32, u32);
+
+/// Asserts what a file of these words is, with one of them changed.
 fn check_change<R: Abort>(
     rt: &R,
     alloc: Global,
     words: &[u32],
-    case: &(usize, u32, u32),
+    case: &Change,
 ) -> Result<(), AllocError> {
     let (at, value, number) = *case;
     let bytes = file(alloc, words, &[(at, value)])?;
@@ -160,119 +167,127 @@ fn refuses_the_smallest_file_cut(rt: HostRuntime) -> Result<(), Fail> {
     Ok(())
 }
 
+static SMALLEST_CHANGED: [Change; 25] = [
+    (0, 0x464c4500, 2),
+    (1, 0x00010102, 3),
+    (1, 0x00010201, 3),
+    (1, 0x00020101, 3),
+    (4, 0x00f30003, 4),
+    (4, 0x003e0002, 5),
+    (9, 1, 6),
+    (9, 2, 6),
+    (9, 4, 6),
+    (9, 8, 6),
+    (9, 16, 0),
+    (5, 2, 7),
+    (7, 0xffff_ffe0, 7),
+    (10, 0x00280034, 7),
+    (11, 0, 7),
+    (13, 2, 8),
+    (13, 3, 8),
+    (13, 7, 8),
+    (17, 9, 9),
+    (15, 0x7fff_c000, 10),
+    (19, 7, 11),
+    (6, 0x10055, 13),
+    (6, 0x1005c, 13),
+    (13, 4, 13),
+    (19, 4, 13),
+];
+
 #[test]
 fn refuses_the_smallest_file_changed(rt: HostRuntime) -> Result<(), Fail> {
-    let cases = [
-        (0, 0x464c4500, 2),
-        (1, 0x00010102, 3),
-        (1, 0x00010201, 3),
-        (1, 0x00020101, 3),
-        (4, 0x00f30003, 4),
-        (4, 0x003e0002, 5),
-        (9, 1, 6),
-        (9, 2, 6),
-        (9, 4, 6),
-        (9, 8, 6),
-        (9, 16, 0),
-        (5, 2, 7),
-        (7, 0xffff_ffe0, 7),
-        (10, 0x00280034, 7),
-        (11, 0, 7),
-        (13, 2, 8),
-        (13, 3, 8),
-        (13, 7, 8),
-        (17, 9, 9),
-        (15, 0x7fff_c000, 10),
-        (19, 7, 11),
-        (6, 0x10055, 13),
-        (6, 0x1005c, 13),
-        (13, 4, 13),
-        (19, 4, 13),
-    ];
-    for case in &cases {
+    for case in &SMALLEST_CHANGED {
         check_change(&rt, rt.alloc(), &SMALLEST, case)?;
     }
     assert!(rt; Refusal::WritableCode.name() == "WritableCode");
     Ok(())
 }
 
+static LINKED_CHANGED: [Change; 29] = [
+    // Code past the file's end, too much memory, data that is longer in the file, and data past
+    // the last address.
+    (22, 0xffff_ffff, 9),
+    (26, 0x0010_0000, 9),
+    (34, 0, 9),
+    (31, 0xffff_ffe4, 9),
+    // Data over the last byte of the code, and over the first of the stack.
+    (31, 0x0001_0137, 10),
+    (31, 0x7fff_bfe1, 10),
+    // Data that touch these, or the last address: only the guard is elsewhere.
+    (31, 0x0001_0138, 14),
+    (31, 0x7fff_bfe0, 14),
+    (31, 0xffff_ffe0, 14),
+    // Notes past the file's end; a name or a descriptor past the segment's.
+    (46, 0xffff_fff0, 12),
+    (49, 91, 12),
+    (53, 0x50, 12),
+    (53, 0xffff_fffd, 12),
+    (54, 0xffff_fffd, 12),
+    // The descriptor's version, its numbers of threads and guards, and its length.
+    (67, 0, 12),
+    (67, 2, 0),
+    (67, 3, 12),
+    (68, 0, 12),
+    (69, 0, 12),
+    (63, 0x20, 12),
+    // A note of another name or type is passed over, so that the file's own entry counts.
+    (62, 7, 13),
+    (64, 2, 13),
+    // Entries in the data, at an odd place, behind the code.
+    (70, 0x0002_0000, 13),
+    (72, 0x0001_0132, 13),
+    (72, 0x0001_0138, 13),
+    // Guards at an odd place, of an odd length, past the data, in the code.
+    (74, 0x0002_0012, 14),
+    (75, 6, 14),
+    (74, 0x0002_0014, 14),
+    (74, 0x0001_0000, 14),
+];
+
 #[test]
 fn refuses_the_linked_file_changed(rt: HostRuntime) -> Result<(), Fail> {
-    let cases = [
-        // Code past the file's end, too much memory, data that is longer in the file, and data past
-        // the last address.
-        (22, 0xffff_ffff, 9),
-        (26, 0x0010_0000, 9),
-        (34, 0, 9),
-        (31, 0xffff_ffe4, 9),
-        // Data over the last byte of the code, and over the first of the stack.
-        (31, 0x0001_0137, 10),
-        (31, 0x7fff_bfe1, 10),
-        // Data that touch these, or the last address: only the guard is elsewhere.
-        (31, 0x0001_0138, 14),
-        (31, 0x7fff_bfe0, 14),
-        (31, 0xffff_ffe0, 14),
-        // Notes past the file's end; a name or a descriptor past the segment's.
-        (46, 0xffff_fff0, 12),
-        (49, 91, 12),
-        (53, 0x50, 12),
-        (53, 0xffff_fffd, 12),
-        (54, 0xffff_fffd, 12),
-        // The descriptor's version, its numbers of threads and guards, and its length.
-        (67, 0, 12),
-        (67, 2, 0),
-        (67, 3, 12),
-        (68, 0, 12),
-        (69, 0, 12),
-        (63, 0x20, 12),
-        // A note of another name or type is passed over, so that the file's own entry counts.
-        (62, 7, 13),
-        (64, 2, 13),
-        // Entries in the data, at an odd place, behind the code.
-        (70, 0x0002_0000, 13),
-        (72, 0x0001_0132, 13),
-        (72, 0x0001_0138, 13),
-        // Guards at an odd place, of an odd length, past the data, in the code.
-        (74, 0x0002_0012, 14),
-        (75, 6, 14),
-        (74, 0x0002_0014, 14),
-        (74, 0x0001_0000, 14),
-    ];
-    for case in &cases {
+    for case in &LINKED_CHANGED {
         check_change(&rt, rt.alloc(), &LINKED, case)?;
     }
     Ok(())
 }
 
+/// The place of a word, and its value.
+type Word = (usize, u32);
+
+/// The first word as it is.
+const SAME: Word = (0, 0x464c_457f);
+
+/// Four words with their values, and the number of the refusal, or 0.
+static SEVERAL_CHANGED: [(Word, Word, Word, Word, u32); 12] = [
+    // Sizes whose sum is 2 ^ 32.
+    ((26, 0x8000_0000), (34, 0x8000_0000), SAME, SAME, 9),
+    // A segment without memory: in the code, with the flags of writable code, past the file.
+    ((37, 1), (39, 0x10010), SAME, SAME, 0),
+    ((37, 1), (43, 7), SAME, SAME, 0),
+    ((37, 1), (38, 0x1c9), SAME, SAME, 9),
+    // No notes, at the file's end and past it.
+    ((37, 4), (38, 0x1c8), SAME, SAME, 0),
+    ((37, 4), (38, 0x1c9), SAME, SAME, 12),
+    // The note on threads and guards twice.
+    ((37, 4), (38, 0xd4), (41, 92), SAME, 12),
+    // Fewer bytes than a note's header are left over; just a header is a note.
+    ((49, 47), (6, 0x10130), SAME, SAME, 0),
+    ((49, 48), (6, 0x10130), SAME, SAME, 12),
+    // No guard; two guards that touch, and two that share an address.
+    ((69, 0), (63, 28), SAME, SAME, 0),
+    ((68, 1), (69, 2), (72, 0x2000c), (73, 4), 0),
+    ((68, 1), (69, 2), (72, 0x2000c), (73, 8), 14),
+];
+
 #[test]
 fn refuses_by_several_changes(rt: HostRuntime) -> Result<(), Fail> {
-    let same = (0, LINKED[0]);
-    let cases = [
-        // Sizes whose sum is 2 ^ 32.
-        ([(26, 0x8000_0000), (34, 0x8000_0000), same, same], 9),
-        // A segment without memory: in the code, with the flags of writable code, past the file.
-        ([(37, 1), (39, 0x10010), same, same], 0),
-        ([(37, 1), (43, 7), same, same], 0),
-        ([(37, 1), (38, 0x1c9), same, same], 9),
-        // No notes, at the file's end and past it.
-        ([(37, 4), (38, 0x1c8), same, same], 0),
-        ([(37, 4), (38, 0x1c9), same, same], 12),
-        // The note on threads and guards twice.
-        ([(37, 4), (38, 0xd4), (41, 92), same], 12),
-        // Fewer bytes than a note's header are left over; just a header is a note.
-        ([(49, 47), (6, 0x10130), same, same], 0),
-        ([(49, 48), (6, 0x10130), same, same], 12),
-        // No guard; two guards that touch, and two that share an address.
-        ([(69, 0), (63, 28), same, same], 0),
-        ([(68, 1), (69, 2), (72, 0x2000c), (73, 4)], 0),
-        ([(68, 1), (69, 2), (72, 0x2000c), (73, 8)], 14),
-    ];
-    for (changes, number) in cases {
-        let bytes = file(rt.alloc(), &LINKED, &changes)?;
-        let (at, value) = changes[0];
+    for (first, second, third, fourth, number) in SEVERAL_CHANGED.iter().copied() {
+        let bytes = file(rt.alloc(), &LINKED, &[first, second, third, fourth])?;
         assert!(rt;
             refused(rt.alloc(), &bytes) == number,
-            "word {at} is {value}"
+            "{first:?}, {second:?}"
         );
     }
     Ok(())
@@ -288,15 +303,12 @@ fn program_header(kind: u32, flags: u32, part: (u32, u32), addr: u32, memory: u3
 /// bytes of each guard. Before these the version of its note.
 type Amounts = (u32, u32, u32, u32, u32, u32);
 
-/// A file of these amounts. It has a note, two words of code at 0x00010000, data from 0x00020000
-/// on of which the file has no bytes, and headers that are passed over. Guards are 8 bytes apart.
-fn file_with(alloc: Global, amounts: Amounts) -> Result<Vec<u8>, AllocError> {
-    let (version, headers, memory, threads, guards, length) = amounts;
-    let pairs = threads.wrapping_add(guards).wrapping_mul(8);
+/// Appends the program headers of a file of these amounts, behind the header's first words: of the
+/// note, of the code, of data of which the file has no bytes, and those that are passed over.
+fn push_headers(words: &mut Vec<u32>, amounts: Amounts, note_size: u32) -> Result<(), AllocError> {
+    let (_, headers, memory, _, _, _) = amounts;
     let note = headers.wrapping_mul(32).wrapping_add(52);
-    let note_size = pairs.wrapping_add(32);
     let code = note.wrapping_add(note_size);
-    let mut words = Vec::from_slice(alloc, &SMALLEST[..11])?;
     words.extend_from_slice(&[headers, 0])?;
     words.extend_from_slice(&program_header(4, 4, (note, note_size), 0, 0))?;
     words.extend_from_slice(&program_header(1, 5, (code, 8), 0x1_0000, 8))?;
@@ -304,38 +316,62 @@ fn file_with(alloc: Global, amounts: Amounts) -> Result<Vec<u8>, AllocError> {
     for _ in 3..headers {
         words.extend_from_slice(&program_header(0x6474_e551, 6, (0, 0), 0, 0))?;
     }
+    Ok(())
+}
+
+/// Appends so many guards of this length, 8 bytes apart.
+fn push_guards(words: &mut Vec<u32>, guards: u32, length: u32) -> Result<(), AllocError> {
+    for lock in 0..guards {
+        words.extend_from_slice(&[lock.wrapping_mul(8).wrapping_add(0x2_0000), length])?;
+    }
+    Ok(())
+}
+
+/// Appends the note of a file of these amounts, whose threads and guards have so many bytes.
+fn push_note(words: &mut Vec<u32>, amounts: Amounts, pairs: u32) -> Result<(), AllocError> {
+    let (version, _, _, threads, guards, length) = amounts;
     words.extend_from_slice(&[8, pairs.wrapping_add(12), 1, 0x4f4c_4354, 0x0053_4b43])?;
     words.extend_from_slice(&[version, threads, guards])?;
     for _ in 0..threads {
         words.extend_from_slice(&[0x1_0000, 0])?;
     }
-    for lock in 0..guards {
-        words.extend_from_slice(&[lock.wrapping_mul(8).wrapping_add(0x2_0000), length])?;
-    }
-    words.extend_from_slice(&[0x05d0_0893, 0x73])?;
-    file(alloc, &words, &[])
+    push_guards(words, guards, length)
 }
+
+/// A file of these amounts: a header, program headers, a note, and two words of code at 0x00010000.
+/// Its data begin at 0x00020000.
+fn file_with(alloc: Global, amounts: Amounts) -> Result<Vec<u8>, AllocError> {
+    let (_, _, _, threads, guards, _) = amounts;
+    let pairs = threads.wrapping_add(guards).wrapping_mul(8);
+    let mut words = Vec::from_slice(alloc, &SMALLEST[..11])?;
+    push_headers(&mut words, amounts, pairs.wrapping_add(32))?;
+    push_note(&mut words, amounts, pairs)?;
+    words.extend_from_slice(&[0x05d0_0893, 0x73])?;
+    bytes_of(alloc, &words)
+}
+
+/// The amounts of a file, and the number of its refusal, or 0.
+static LIMITS: [(Amounts, u32); 15] = [
+    ((1, 16, 66_000, 1, 0, 0), 0),
+    ((1, 17, 66_000, 1, 0, 0), 7),
+    ((1, 3, 1_048_576, 1, 0, 0), 0),
+    ((1, 3, 1_048_577, 1, 0, 0), 9),
+    ((1, 3, 66_000, 16, 16, 4), 0),
+    ((1, 3, 66_000, 17, 16, 4), 12),
+    ((1, 3, 66_000, 16, 17, 4), 12),
+    ((2, 3, 66_000, 1, 0, 0), 0),
+    ((2, 3, 66_000, 32, 32, 4), 0),
+    ((2, 3, 66_000, 33, 32, 4), 12),
+    ((2, 3, 66_000, 32, 33, 4), 12),
+    ((2, 3, 66_000, 0, 32, 4), 12),
+    ((1, 3, 66_000, 1, 1, 0), 14),
+    ((1, 3, 66_000, 1, 1, 65_536), 0),
+    ((1, 3, 66_000, 1, 1, 65_540), 14),
+];
 
 #[test]
 fn loads_up_to_the_limits(rt: HostRuntime) -> Result<(), Fail> {
-    let cases = [
-        ((1, 16, 66_000, 1, 0, 0), 0),
-        ((1, 17, 66_000, 1, 0, 0), 7),
-        ((1, 3, 1_048_576, 1, 0, 0), 0),
-        ((1, 3, 1_048_577, 1, 0, 0), 9),
-        ((1, 3, 66_000, 16, 16, 4), 0),
-        ((1, 3, 66_000, 17, 16, 4), 12),
-        ((1, 3, 66_000, 16, 17, 4), 12),
-        ((2, 3, 66_000, 1, 0, 0), 0),
-        ((2, 3, 66_000, 32, 32, 4), 0),
-        ((2, 3, 66_000, 33, 32, 4), 12),
-        ((2, 3, 66_000, 32, 33, 4), 12),
-        ((2, 3, 66_000, 0, 32, 4), 12),
-        ((1, 3, 66_000, 1, 1, 0), 14),
-        ((1, 3, 66_000, 1, 1, 65_536), 0),
-        ((1, 3, 66_000, 1, 1, 65_540), 14),
-    ];
-    for (amounts, number) in cases {
+    for (amounts, number) in LIMITS.iter().copied() {
         let bytes = file_with(rt.alloc(), amounts)?;
         assert!(rt; refused(rt.alloc(), &bytes) == number, "{amounts:?}");
     }

@@ -17,6 +17,13 @@ fn check_new<R: Abort>(rt: &R, alloc: Global, image: &Image) -> Result<(), Alloc
     Ok(())
 }
 
+/// A lock that was broken in its first section, in a block that stores to the guard.
+fn check_changed<R: Abort>(rt: &R, lock: &LockState) {
+    assert!(rt; lock.bytes() == [0x11, 0x22, 0x33, 0x44, 0xfe, 0xca, 0xad, 0x78].as_slice());
+    assert!(rt; lock.broken() && lock.sections() == 1);
+    assert!(rt; lock.entries() == 0 && lock.run() == 0);
+}
+
 /// A block loads from the guard and stores to it, and breaks the lock.
 fn change<R: Abort>(rt: &R, alloc: Global, image: &Image) -> Result<(), AllocError> {
     assert!(rt; image.guards() == 1);
@@ -33,9 +40,7 @@ fn change<R: Abort>(rt: &R, alloc: Global, image: &Image) -> Result<(), AllocErr
     lock.note_foreign(9);
     assert!(rt; lock.load(0x20008, 4) == 0x78ad_cafe);
     lock.break_lock();
-    assert!(rt; lock.bytes() == [0x11, 0x22, 0x33, 0x44, 0xfe, 0xca, 0xad, 0x78].as_slice());
-    assert!(rt; lock.broken() && lock.sections() == 1);
-    assert!(rt; lock.entries() == 0 && lock.run() == 0);
+    check_changed(rt, &lock);
     Ok(())
 }
 

@@ -141,30 +141,17 @@ block 4 thread 0 turns 2 held - kind on worker 0 pc 00100030 end exit
 ";
 
 /// A history of a guest, its last lines apart, and at which line it is rejected and why, if it is.
-#[derive(Clone, Copy)]
-struct Case<'a> {
-    front: &'a [&'a str],
-    last: &'a str,
-    rejected: Option<(u64, Reason)>,
-}
+type Case<'a> = (&'a [&'a str], &'a str, Option<(u64, Reason)>);
 
 /// The lines of a history in one text.
-fn joined(alloc: Global, case: &Case) -> Result<String, AllocError> {
+fn joined(alloc: Global, case: &Case<'_>) -> Result<String, AllocError> {
+    let (front, last, _) = *case;
     let mut text = String::new(alloc);
-    for line in case.front {
+    for line in front {
         text.push_str(line)?;
     }
-    text.push_str(case.last)?;
+    text.push_str(last)?;
     Ok(text)
-}
-
-/// A history that goes on with one more line.
-fn behind<'a>(front: &'a [&'a str], last: &'a str, rejected: Option<(u64, Reason)>) -> Case<'a> {
-    Case {
-        front,
-        last,
-        rejected,
-    }
 }
 
 /// The image of threads with this code, and with a guard of one zero word.
@@ -181,7 +168,7 @@ fn found(
     alloc: Global,
     image: &Image,
     terms: Terms,
-    case: &Case,
+    case: &Case<'_>,
 ) -> Result<Option<(u64, Reason)>, Fail> {
     let text = joined(alloc, case)?;
     let history = read(alloc, text.as_bytes())?;
@@ -195,59 +182,57 @@ fn check_cases<R: Abort>(
     alloc: Global,
     image: &Image,
     terms: Terms,
-    cases: &[Case],
+    cases: &[Case<'_>],
 ) -> Result<(), Fail> {
     for (number, case) in cases.iter().enumerate() {
         let rejected = found(alloc, image, terms, case)?;
-        assert!(rt; rejected == case.rejected, "case {number}");
+        assert!(rt; rejected == case.2, "case {number}");
     }
     Ok(())
 }
 
 /// Histories of the lone thread: the right one, and one for each reason.
-fn cases_of_one() -> [Case<'static>; 6] {
-    [
-        behind(&[], EXITS, None),
-        behind(
-            &[],
-            "block 0 thread 0 turns 1 held - kind start worker 0 pc 00010054 end exit\n",
-            Some((1, Reason::Block)),
-        ),
-        behind(
-            &[],
-            "block 0 thread 0 turns 2 held - kind on worker 0 pc 00010054 end exit\n",
-            Some((1, Reason::Kind)),
-        ),
-        behind(
-            &[],
-            "block 0 thread 0 turns 2 held - kind start worker 1 pc 00010054 end exit\n",
-            Some((1, Reason::Worker)),
-        ),
-        behind(
-            &[],
-            "block 0 thread 1 turns 2 held - kind start worker 0 pc 00010054 end exit\n",
-            Some((1, Reason::Thread)),
-        ),
-        behind(&[], "", Some((1, Reason::Incomplete))),
-    ]
-}
+static CASES_OF_ONE: [Case<'static>; 6] = [
+    (&[], EXITS, None),
+    (
+        &[],
+        "block 0 thread 0 turns 1 held - kind start worker 0 pc 00010054 end exit\n",
+        Some((1, Reason::Block)),
+    ),
+    (
+        &[],
+        "block 0 thread 0 turns 2 held - kind on worker 0 pc 00010054 end exit\n",
+        Some((1, Reason::Kind)),
+    ),
+    (
+        &[],
+        "block 0 thread 0 turns 2 held - kind start worker 1 pc 00010054 end exit\n",
+        Some((1, Reason::Worker)),
+    ),
+    (
+        &[],
+        "block 0 thread 1 turns 2 held - kind start worker 0 pc 00010054 end exit\n",
+        Some((1, Reason::Thread)),
+    ),
+    (&[], "", Some((1, Reason::Incomplete))),
+];
 
 #[test]
 fn a_lone_thread_is_rejected_for_each_reason(rt: HostRuntime) -> Result<(), Fail> {
     let image = load(rt.alloc(), &SMALLEST)?;
-    check_cases(&rt, rt.alloc(), &image, ALONE, &cases_of_one())
+    check_cases(&rt, rt.alloc(), &image, ALONE, &CASES_OF_ONE)
 }
 
 /// The run of the two threads, and where it goes wrong.
 fn cases_of_two<'a>(run: &'a [&'a str; 7]) -> [Case<'a>; 7] {
     [
-        behind(run, "", None),
-        behind(&run[..3], TAKES_TOO_EARLY, Some((4, Reason::Owner))),
-        behind(&run[..3], HOLDS_NOTHING, Some((4, Reason::Block))),
-        behind(&run[..4], ADOPTED_ELSEWHERE, Some((5, Reason::Kind))),
-        behind(&run[..4], GRANTED, Some((5, Reason::Kind))),
-        behind(&run[..6], EXITS_AGAIN, Some((7, Reason::Thread))),
-        behind(&run[..6], "", Some((7, Reason::Incomplete))),
+        (run.as_slice(), "", None),
+        (&run[..3], TAKES_TOO_EARLY, Some((4, Reason::Owner))),
+        (&run[..3], HOLDS_NOTHING, Some((4, Reason::Block))),
+        (&run[..4], ADOPTED_ELSEWHERE, Some((5, Reason::Kind))),
+        (&run[..4], GRANTED, Some((5, Reason::Kind))),
+        (&run[..6], EXITS_AGAIN, Some((7, Reason::Thread))),
+        (&run[..6], "", Some((7, Reason::Incomplete))),
     ]
 }
 
@@ -261,9 +246,10 @@ fn two_threads_are_rejected_where_they_go_wrong(rt: HostRuntime) -> Result<(), F
 #[test]
 fn a_thread_may_adopt_its_own_section(rt: HostRuntime) -> Result<(), Fail> {
     let image = image_of(rt.alloc(), &TWICE, &[(0x0010_0000, 0)])?;
-    check_cases(&rt, rt.alloc(), &image, TWO, &[behind(&[], OWN, None)])?;
-    let rejected = behind(&[], OWN, Some((4, Reason::Kind)));
-    check_cases(&rt, rt.alloc(), &image, ALONE, &[rejected])
+    let none: &[&str] = &[];
+    check_cases(&rt, rt.alloc(), &image, TWO, &[(none, OWN, None)])?;
+    let rejected = Some((4, Reason::Kind));
+    check_cases(&rt, rt.alloc(), &image, ALONE, &[(none, OWN, rejected)])
 }
 
 /// The only history of the lone thread is accepted, and leaves its package.

@@ -41,7 +41,10 @@ static READINGS: [Reading; 13] = [
 ];
 
 /// Whether the answer is the wanted one.
-fn is_as_wanted(read: &Result<Vec<u8>, ReadAll>, wanted: &Result<&[u8], ReadAll>) -> bool {
+pub(crate) fn is_as_wanted(
+    read: &Result<Vec<u8>, ReadAll>,
+    wanted: &Result<&[u8], ReadAll>,
+) -> bool {
     match (read, wanted) {
         (Ok(read), Ok(wanted)) => read.as_slice() == *wanted,
         (Err(why), Err(wanted)) => *why == *wanted,

@@ -2,9 +2,11 @@
 //!
 //! `mutex_spec` runs the mutex machine, and upgrades old histories. `events` performs events of the
 //! delegation machine and compares the places of threads and locks. `told` compares what the events
-//! write. `guests` has their guests, as words.
+//! write. `deeds` has the events by name, `guests` the guests, as words.
 #![tactic(auto)]
 
+#[cfg(test)]
+mod deeds;
 #[cfg(test)]
 mod events;
 #[cfg(test)]

@@ -202,6 +202,17 @@ fn have_pcs(blocks: &[Block], pcs: &[u32]) -> bool {
     blocks.len() == pcs.len() && blocks.iter().zip(pcs).all(|(block, pc)| block.pc == *pc)
 }
 
+/// Where the blocks of two threads begin that each have one section, one thread after the other but
+/// for their last blocks.
+const PCS: [u32; 6] = [
+    0x0010_0000,
+    0x0010_000c,
+    0x0010_0000,
+    0x0010_000c,
+    0x0010_0028,
+    0x0010_0028,
+];
+
 /// The blocks of two threads that each have one section get their pcs.
 #[test]
 fn old_blocks_of_two_threads_get_their_pcs(rt: HostRuntime) -> Result<(), Fail> {
@@ -214,17 +225,9 @@ fn old_blocks_of_two_threads_get_their_pcs(rt: HostRuntime) -> Result<(), Fail> 
         old_block(0, 2),
         old_block(1, 2),
     ];
-    let pcs = [
-        0x0010_0000,
-        0x0010_000c,
-        0x0010_0000,
-        0x0010_000c,
-        0x0010_0028,
-        0x0010_0028,
-    ];
     let Some(blocks) = upgrade(rt.alloc(), &image, 100, &old)? else {
         panic!(rt; "the run is defined")
     };
-    assert!(rt; have_pcs(&blocks, &pcs));
+    assert!(rt; have_pcs(&blocks, &PCS));
     Ok(())
 }

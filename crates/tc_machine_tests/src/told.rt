@@ -4,79 +4,22 @@ ghost use Rattle.std.specs.Prelude.{◌≤◌};
 ghost use Rattle.tc_isa.specs.declared.limits.TheConstants.{MAX_BATCH};
 ghost use Rattle.tc_told.specs.View.{IsWriterOf};
 
-use crate::told::Deed::{
-    Adopt, Back, Claim, Commit, Enter, Finish, Free, Grant, Leave, Park, Ship, Take, Turn,
+use crate::deeds::Deed::{
+    Adopt, Back, Claim, Commit, Enter, Finish, Grant, Leave, Park, SetFree, Ship, Take, Turn,
 };
+use crate::deeds::{Deed, event_of, times_of};
 use std::alloc::{AllocError, Global};
 use std::process::Abort;
 use std::test::Fail;
 use tc_build::build::{MAX_CODE_WORDS, build};
-use tc_core::event::Event;
 use tc_elf::image::Image;
 use tc_elf::load::load;
 use tc_journal::block::Block;
 use tc_journal::reading::read;
 use tc_told::writer::Writer;
 
-/// What a worker does with a thread: an event, of this lock if it has one. `Turn` is so many.
-#[derive(Clone, Copy)]
-enum Deed {
-    Claim,
-    Turn(u32),
-    Commit,
-    Enter(u32),
-    Take(u32),
-    Ship(u32),
-    Adopt(u32),
-    Grant(u32),
-    Leave(u32),
-    Free(u32),
-    Back,
-    Park,
-    Finish,
-}
-
 /// A worker, a thread, and what the one does with the other, in order.
-type Row<'a> = (u32, u32, &'a [Deed]);
-
-/// The event of a deed. Of a lock that is left or set free no thread is told.
-fn event_of(worker: u32, thread: u32, deed: Deed) -> Event {
-    match deed {
-        Claim => Event::Claim { worker, thread },
-        Turn(_) => Event::Turn { worker, thread },
-        Commit => Event::Commit { worker, thread },
-        Enter(lock) => Event::Enter {
-            worker,
-            thread,
-            lock,
-        },
-        Take(lock) => Event::Take {
-            worker,
-            thread,
-            lock,
-        },
-        Ship(lock) => Event::Ship {
-            worker,
-            thread,
-            lock,
-        },
-        Adopt(lock) => Event::Adopt {
-            worker,
-            thread,
-            lock,
-        },
-        Grant(lock) => Event::Grant {
-            worker,
-            thread,
-            lock,
-        },
-        Leave(lock) => Event::Leave { worker, lock },
-        Free(lock) => Event::Free { worker, lock },
-        Back => Event::HandBack { worker, thread },
-        Park => Event::Park { worker, thread },
-        Finish => Event::Finish { worker, thread },
-    }
-}
+type Row = (u32, u32, &'static [Deed]);
 
 /// A guest of two threads, by its code and where each begins, and with how many locks.
 #[derive(Clone, Copy)]
@@ -152,8 +95,7 @@ fn perform(
     ensures { IsWriterOf image.now writer.new }
 {
     let event = event_of(worker, thread, deed);
-    let times = if let Turn(turns) = deed { turns } else { 1 };
-    for done in 0..times {
+    for done in 0..times_of(deed) {
         if !writer.step(image, event)? {
             return Ok(false);
         }
@@ -162,7 +104,7 @@ fn perform(
 }
 
 /// Does the deeds of a row, and says whether each was enabled.
-fn perform_row(writer: &mut Writer, image: &Image, row: Row<'_>) -> Result<bool, AllocError>
+fn perform_row(writer: &mut Writer, image: &Image, row: Row) -> Result<bool, AllocError>
     requires { IsWriterOf image.now writer.old }
     ensures { IsWriterOf image.now writer.new }
 {
@@ -180,7 +122,7 @@ fn perform_all<R: Abort>(
     rt: &R,
     writer: &mut Writer,
     image: &Image,
-    rows: &[Row<'_>],
+    rows: &[Row],
 ) -> Result<(), AllocError>
     requires { IsWriterOf image.now writer.old }
     ensures { IsWriterOf image.now writer.new }
@@ -209,7 +151,7 @@ fn check_image<R: Abort>(
     alloc: Global,
     image: &Image,
     limit: u32,
-    rows: &[Row<'_>],
+    rows: &[Row],
     lines: &str,
 ) -> Result<(), Fail>
     requires { limit ≤ MAX_BATCH }
@@ -225,7 +167,7 @@ fn check<R: Abort>(
     alloc: Global,
     guest: &Guest<'_>,
     limit: u32,
-    rows: &[Row<'_>],
+    rows: &[Row],
     lines: &str,
 ) -> Result<(), Fail>
     requires { limit ≤ MAX_BATCH }
@@ -234,21 +176,19 @@ fn check<R: Abort>(
     check_image(rt, alloc, &image, limit, rows, lines)
 }
 
-/// A free lock is taken, left while the next thread is already in its queue, and taken again.
-#[test]
-fn a_lock_is_taken_again(rt: HostRuntime) -> Result<(), Fail> {
-    let rows: &[Row<'_>] = &[
-        (0, 0, &[Claim, Turn(3), Commit]),
-        (0, 0, &[Enter(0), Take(0), Turn(7), Commit]),
-        (1, 1, &[Claim, Turn(3), Commit]),
-        (0, 0, &[Leave(0)]),
-        (1, 1, &[Enter(0)]),
-        (0, 0, &[Free(0)]),
-        (1, 1, &[Take(0), Turn(7), Commit]),
-        (0, 0, &[Turn(2), Commit, Finish]),
-        (1, 1, &[Turn(2), Commit, Finish]),
-    ];
-    let lines = "\
+static TAKEN_AGAIN_ROWS: [Row; 9] = [
+    (0, 0, &[Claim, Turn(3), Commit]),
+    (0, 0, &[Enter(0), Take(0), Turn(7), Commit]),
+    (1, 1, &[Claim, Turn(3), Commit]),
+    (0, 0, &[Leave(0)]),
+    (1, 1, &[Enter(0)]),
+    (0, 0, &[SetFree(0)]),
+    (1, 1, &[Take(0), Turn(7), Commit]),
+    (0, 0, &[Turn(2), Commit, Finish]),
+    (1, 1, &[Turn(2), Commit, Finish]),
+];
+
+const TAKEN_AGAIN: &str = "\
 block 0 thread 0 turns 3 held - kind start worker 0 pc 00100000 end wants 0
 block 1 thread 0 turns 7 held 0 kind taken worker 0 pc 0010000c end unlocked 0
 block 2 thread 1 turns 3 held - kind start worker 1 pc 00100000 end wants 0
@@ -256,7 +196,11 @@ block 3 thread 1 turns 7 held 0 kind taken worker 1 pc 0010000c end unlocked 0
 block 4 thread 0 turns 2 held - kind on worker 0 pc 00100028 end exit
 block 5 thread 1 turns 2 held - kind on worker 1 pc 00100028 end exit
 ";
-    check(&rt, rt.alloc(), &ONE, 4, rows, lines)
+
+/// A free lock is taken, left while the next thread is already in its queue, and taken again.
+#[test]
+fn a_lock_is_taken_again(rt: HostRuntime) -> Result<(), Fail> {
+    check(&rt, rt.alloc(), &ONE, 4, &TAKEN_AGAIN_ROWS, TAKEN_AGAIN)
 }
 
 const ADOPTED: &str = "\
@@ -268,55 +212,54 @@ block 4 thread 0 turns 2 held - kind on worker 0 pc 00100028 end exit
 block 5 thread 1 turns 2 held - kind on worker 1 pc 00100028 end exit
 ";
 
+static WAITS_ROWS: [Row; 8] = [
+    (0, 0, &[Claim, Turn(3), Commit]),
+    (0, 0, &[Enter(0), Take(0), Turn(4)]),
+    (1, 1, &[Claim, Turn(3), Commit]),
+    (1, 1, &[Enter(0), Ship(0)]),
+    (0, 0, &[Turn(3), Commit]),
+    (0, 1, &[Adopt(0), Turn(7), Commit, Back]),
+    (0, 0, &[Turn(2), Commit, Finish]),
+    (1, 1, &[Claim, Turn(2), Commit, Finish]),
+];
+
 /// A waiter is in the queue while the lock is held: its section is run by the worker that releases
 /// the lock, and the rest of its thread by another one.
 #[test]
 fn a_waiter_is_adopted(rt: HostRuntime) -> Result<(), Fail> {
-    let rows: &[Row<'_>] = &[
-        (0, 0, &[Claim, Turn(3), Commit]),
-        (0, 0, &[Enter(0), Take(0), Turn(4)]),
-        (1, 1, &[Claim, Turn(3), Commit]),
-        (1, 1, &[Enter(0), Ship(0)]),
-        (0, 0, &[Turn(3), Commit]),
-        (0, 1, &[Adopt(0), Turn(7), Commit, Back]),
-        (0, 0, &[Turn(2), Commit, Finish]),
-        (1, 1, &[Claim, Turn(2), Commit, Finish]),
-    ];
-    check(&rt, rt.alloc(), &ONE, 4, rows, ADOPTED)
+    check(&rt, rt.alloc(), &ONE, 4, &WAITS_ROWS, ADOPTED)
 }
+
+static COMES_ROWS: [Row; 7] = [
+    (0, 0, &[Claim, Turn(3), Commit, Back]),
+    (1, 1, &[Claim, Turn(3), Commit, Back]),
+    (0, 0, &[Claim, Enter(0), Take(0), Turn(7), Commit, Back]),
+    (0, 1, &[Claim, Enter(0), Ship(0)]),
+    (0, 1, &[Adopt(0), Turn(7), Commit, Back]),
+    (0, 0, &[Claim, Turn(2), Commit, Finish]),
+    (1, 1, &[Claim, Turn(2), Commit, Finish]),
+];
 
 /// The same history by other events, those that the theorem constructs: each thread goes back after
 /// each block, and the waiter enters right before it is adopted, while nobody has the lock.
 #[test]
 fn a_waiter_is_adopted_as_it_comes(rt: HostRuntime) -> Result<(), Fail> {
-    let rows: &[Row<'_>] = &[
-        (0, 0, &[Claim, Turn(3), Commit, Back]),
-        (1, 1, &[Claim, Turn(3), Commit, Back]),
-        (0, 0, &[Claim, Enter(0), Take(0), Turn(7), Commit, Back]),
-        (0, 1, &[Claim, Enter(0), Ship(0)]),
-        (0, 1, &[Adopt(0), Turn(7), Commit, Back]),
-        (0, 0, &[Claim, Turn(2), Commit, Finish]),
-        (1, 1, &[Claim, Turn(2), Commit, Finish]),
-    ];
-    check(&rt, rt.alloc(), &ONE, 4, rows, ADOPTED)
+    check(&rt, rt.alloc(), &ONE, 4, &COMES_ROWS, ADOPTED)
 }
 
-/// A waiter that was adopted is handed back before its first turn, and another worker runs its
-/// section: the block is that worker's.
-#[test]
-fn an_adopted_waiter_is_run_elsewhere(rt: HostRuntime) -> Result<(), Fail> {
-    let rows: &[Row<'_>] = &[
-        (0, 0, &[Claim, Turn(3), Commit]),
-        (0, 0, &[Enter(0), Take(0), Turn(4)]),
-        (1, 1, &[Claim, Turn(3), Commit]),
-        (1, 1, &[Enter(0), Ship(0)]),
-        (0, 0, &[Turn(3), Commit]),
-        (0, 1, &[Adopt(0), Back]),
-        (1, 1, &[Claim, Turn(7), Commit]),
-        (1, 1, &[Leave(0), Free(0), Turn(2), Commit, Finish]),
-        (0, 0, &[Turn(2), Commit, Finish]),
-    ];
-    let lines = "\
+static RUN_ELSEWHERE_ROWS: [Row; 9] = [
+    (0, 0, &[Claim, Turn(3), Commit]),
+    (0, 0, &[Enter(0), Take(0), Turn(4)]),
+    (1, 1, &[Claim, Turn(3), Commit]),
+    (1, 1, &[Enter(0), Ship(0)]),
+    (0, 0, &[Turn(3), Commit]),
+    (0, 1, &[Adopt(0), Back]),
+    (1, 1, &[Claim, Turn(7), Commit]),
+    (1, 1, &[Leave(0), SetFree(0), Turn(2), Commit, Finish]),
+    (0, 0, &[Turn(2), Commit, Finish]),
+];
+
+const RUN_ELSEWHERE: &str = "\
 block 0 thread 0 turns 3 held - kind start worker 0 pc 00100000 end wants 0
 block 1 thread 1 turns 3 held - kind start worker 1 pc 00100000 end wants 0
 block 2 thread 0 turns 7 held 0 kind taken worker 0 pc 0010000c end unlocked 0
@@ -324,26 +267,28 @@ block 3 thread 1 turns 7 held 0 kind adopted worker 1 pc 0010000c end unlocked 0
 block 4 thread 1 turns 2 held - kind on worker 1 pc 00100028 end exit
 block 5 thread 0 turns 2 held - kind on worker 0 pc 00100028 end exit
 ";
-    check(&rt, rt.alloc(), &ONE, 4, rows, lines)
+
+/// A waiter that was adopted is handed back before its first turn, and another worker runs its
+/// section: the block is that worker's.
+#[test]
+fn an_adopted_waiter_is_run_elsewhere(rt: HostRuntime) -> Result<(), Fail> {
+    check(&rt, rt.alloc(), &ONE, 4, &RUN_ELSEWHERE_ROWS, RUN_ELSEWHERE)
 }
 
-/// If no section may be adopted, the waiter is granted the lock, and the worker that claims it runs
-/// its section.
-#[test]
-fn a_waiter_is_granted_the_lock(rt: HostRuntime) -> Result<(), Fail> {
-    let rows: &[Row<'_>] = &[
-        (0, 0, &[Claim, Turn(3), Commit]),
-        (0, 0, &[Enter(0), Take(0), Turn(4)]),
-        (1, 1, &[Claim, Turn(3), Commit]),
-        (1, 1, &[Enter(0), Ship(0)]),
-        (0, 0, &[Turn(3), Commit]),
-        (0, 1, &[Grant(0)]),
-        (0, 0, &[Turn(2), Commit, Finish]),
-        (1, 1, &[Claim, Turn(7), Commit]),
-        (1, 1, &[Leave(0), Free(0)]),
-        (1, 1, &[Turn(2), Commit, Finish]),
-    ];
-    let lines = "\
+static GRANTED_ROWS: [Row; 10] = [
+    (0, 0, &[Claim, Turn(3), Commit]),
+    (0, 0, &[Enter(0), Take(0), Turn(4)]),
+    (1, 1, &[Claim, Turn(3), Commit]),
+    (1, 1, &[Enter(0), Ship(0)]),
+    (0, 0, &[Turn(3), Commit]),
+    (0, 1, &[Grant(0)]),
+    (0, 0, &[Turn(2), Commit, Finish]),
+    (1, 1, &[Claim, Turn(7), Commit]),
+    (1, 1, &[Leave(0), SetFree(0)]),
+    (1, 1, &[Turn(2), Commit, Finish]),
+];
+
+const GRANTED: &str = "\
 block 0 thread 0 turns 3 held - kind start worker 0 pc 00100000 end wants 0
 block 1 thread 1 turns 3 held - kind start worker 1 pc 00100000 end wants 0
 block 2 thread 0 turns 7 held 0 kind taken worker 0 pc 0010000c end unlocked 0
@@ -351,24 +296,26 @@ block 3 thread 0 turns 2 held - kind on worker 0 pc 00100028 end exit
 block 4 thread 1 turns 7 held 0 kind granted worker 1 pc 0010000c end unlocked 0
 block 5 thread 1 turns 2 held - kind on worker 1 pc 00100028 end exit
 ";
-    check(&rt, rt.alloc(), &ONE, 0, rows, lines)
+
+/// If no section may be adopted, the waiter is granted the lock, and the worker that claims it runs
+/// its section.
+#[test]
+fn a_waiter_is_granted_the_lock(rt: HostRuntime) -> Result<(), Fail> {
+    check(&rt, rt.alloc(), &ONE, 0, &GRANTED_ROWS, GRANTED)
 }
 
-/// A thread is parked inside its section, and goes on with it at another worker, which adopts the
-/// waiter.
-#[test]
-fn a_section_goes_on_after_a_sleep(rt: HostRuntime) -> Result<(), Fail> {
-    let rows: &[Row<'_>] = &[
-        (0, 0, &[Claim, Turn(3), Commit]),
-        (0, 0, &[Enter(0), Take(0), Turn(4), Commit, Park]),
-        (1, 1, &[Claim, Turn(3), Commit]),
-        (1, 1, &[Enter(0), Ship(0)]),
-        (1, 0, &[Claim, Turn(3), Commit]),
-        (1, 1, &[Adopt(0), Turn(7), Commit]),
-        (1, 0, &[Turn(2), Commit, Finish]),
-        (1, 1, &[Turn(2), Commit, Finish]),
-    ];
-    let lines = "\
+static SLEEPS_ROWS: [Row; 8] = [
+    (0, 0, &[Claim, Turn(3), Commit]),
+    (0, 0, &[Enter(0), Take(0), Turn(4), Commit, Park]),
+    (1, 1, &[Claim, Turn(3), Commit]),
+    (1, 1, &[Enter(0), Ship(0)]),
+    (1, 0, &[Claim, Turn(3), Commit]),
+    (1, 1, &[Adopt(0), Turn(7), Commit]),
+    (1, 0, &[Turn(2), Commit, Finish]),
+    (1, 1, &[Turn(2), Commit, Finish]),
+];
+
+const SLEEPS: &str = "\
 block 0 thread 0 turns 3 held - kind start worker 0 pc 00100000 end wants 0
 block 1 thread 0 turns 4 held 0 kind taken worker 0 pc 0010000c end slept
 block 2 thread 1 turns 3 held - kind start worker 1 pc 00100030 end wants 0
@@ -377,26 +324,29 @@ block 4 thread 1 turns 7 held 0 kind adopted worker 1 pc 0010003c end unlocked 0
 block 5 thread 0 turns 2 held - kind on worker 1 pc 00100028 end exit
 block 6 thread 1 turns 2 held - kind on worker 1 pc 00100058 end exit
 ";
-    check(&rt, rt.alloc(), &DOZE, 4, rows, lines)
+
+/// A thread is parked inside its section, and goes on with it at another worker, which adopts the
+/// waiter.
+#[test]
+fn a_section_goes_on_after_a_sleep(rt: HostRuntime) -> Result<(), Fail> {
+    check(&rt, rt.alloc(), &DOZE, 4, &SLEEPS_ROWS, SLEEPS)
 }
 
-/// A thread ends with two locks: a waiter is granted the one, and the other becomes free.
-#[test]
-fn a_thread_ends_with_two_locks(rt: HostRuntime) -> Result<(), Fail> {
-    let rows: &[Row<'_>] = &[
-        (0, 0, &[Claim, Turn(2), Commit]),
-        (0, 0, &[Enter(0), Take(0), Turn(3), Commit]),
-        (0, 0, &[Enter(1), Take(1), Turn(3), Commit, Finish]),
-        (1, 1, &[Claim, Turn(2), Commit]),
-        (1, 1, &[Enter(0), Ship(0)]),
-        (0, 1, &[Grant(0)]),
-        (0, 0, &[Leave(1), Free(1)]),
-        (1, 1, &[Claim, Turn(4), Commit]),
-        (1, 1, &[Turn(2), Commit]),
-        (1, 1, &[Enter(1), Take(1), Turn(4), Commit]),
-        (1, 1, &[Turn(2), Commit, Finish]),
-    ];
-    let lines = "\
+static ENDS_ROWS: [Row; 11] = [
+    (0, 0, &[Claim, Turn(2), Commit]),
+    (0, 0, &[Enter(0), Take(0), Turn(3), Commit]),
+    (0, 0, &[Enter(1), Take(1), Turn(3), Commit, Finish]),
+    (1, 1, &[Claim, Turn(2), Commit]),
+    (1, 1, &[Enter(0), Ship(0)]),
+    (0, 1, &[Grant(0)]),
+    (0, 0, &[Leave(1), SetFree(1)]),
+    (1, 1, &[Claim, Turn(4), Commit]),
+    (1, 1, &[Turn(2), Commit]),
+    (1, 1, &[Enter(1), Take(1), Turn(4), Commit]),
+    (1, 1, &[Turn(2), Commit, Finish]),
+];
+
+const ENDS: &str = "\
 block 0 thread 0 turns 2 held - kind start worker 0 pc 00100000 end wants 0
 block 1 thread 0 turns 3 held 0 kind taken worker 0 pc 00100008 end wants 1
 block 2 thread 0 turns 3 held 0,1 kind taken worker 0 pc 00100014 end exit
@@ -406,5 +356,9 @@ block 5 thread 1 turns 2 held - kind on worker 1 pc 00100038 end wants 1
 block 6 thread 1 turns 4 held 1 kind taken worker 1 pc 00100040 end unlocked 1
 block 7 thread 1 turns 2 held - kind on worker 1 pc 00100050 end exit
 ";
-    check(&rt, rt.alloc(), &LAST, 4, rows, lines)
+
+/// A thread ends with two locks: a waiter is granted the one, and the other becomes free.
+#[test]
+fn a_thread_ends_with_two_locks(rt: HostRuntime) -> Result<(), Fail> {
+    check(&rt, rt.alloc(), &LAST, 4, &ENDS_ROWS, ENDS)
 }

@@ -39,13 +39,16 @@ impl Ran {
 
     /// The run did what was asked for.
     pub(crate) fn check_done<R: Abort>(&self, rt: &R) {
-        assert_eq!(rt; self.status, Status::Done);
+        let status = self.status;
+        assert!(rt; status == Status::Done, "{status:?}");
     }
 
     /// The run ended with this status, and wrote this text.
     pub(crate) fn check<R: Abort>(&self, rt: &R, status: Status, text: &str) {
-        assert_eq!(rt; self.text(), text);
-        assert_eq!(rt; self.status, status);
+        let written = self.text();
+        assert!(rt; written == text, "{written}");
+        let own = self.status;
+        assert!(rt; own == status, "{own:?}");
     }
 }
 

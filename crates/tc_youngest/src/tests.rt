@@ -3,7 +3,7 @@ ghost use Rattle.tc_queue.specs.View.{IsOwnSeatOf};
 
 use super::*;
 use crate::stack::Stack;
-use std::alloc::Global;
+use std::alloc::{AllocError, Global};
 use std::process::Abort;
 use std::sync::Wait;
 use std::test::*;
@@ -17,13 +17,19 @@ fn turn(thread: u32) -> Turn
     Turn { thread, number: 1 }
 }
 
-/// Threads 1, 2 and 3 wait in this order. Whoever is served first and second comes again behind the
-/// others. Answers who is served, in five goes.
-fn goes<R: Abort>(rt: &R, alloc: Global, bound: u32) -> Result<[u32; 5], Fail> {
+/// Threads 1, 2 and 3 wait in this order.
+fn three_wait(alloc: Global, bound: u32) -> Result<Stack, AllocError> {
     let mut stack = Stack::new(alloc, bound)?;
     for thread in 1..4 {
         stack.link(turn(thread));
     }
+    Ok(stack)
+}
+
+/// Whoever of the three is served first and second comes again behind the others. Answers who is
+/// served, in five goes.
+fn goes<R: Abort>(rt: &R, alloc: Global, bound: u32) -> Result<[u32; 5], AllocError> {
+    let mut stack = three_wait(alloc, bound)?;
     let mut order = [0; 5];
     for go in 0..5 {
         let next = stack.next().expect(rt, "somebody waits");

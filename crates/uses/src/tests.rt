@@ -27,7 +27,8 @@ fn three_turns_enter_with_five_calls(rt: HostRuntime) -> Result<(), Fail> {
     let (queue, seats) = Queue::new(rt.alloc(), 3, 1)?;
     let turns = [first_of(0), first_of(1), first_of(2)];
     for mut seat in seats {
-        assert_eq!(rt; enter_all(&queue, &mut seat, &turns), 5);
+        let calls = enter_all(&queue, &mut seat, &turns);
+        assert!(rt; calls == 5, "{calls}");
     }
     Ok(())
 }
@@ -56,6 +57,13 @@ const ALONE: Terms = Terms {
     limit: 0,
 };
 
+/// The image of two threads of EXIT.
+fn two_exits(alloc: Global) -> Result<Image, Fail> {
+    let entries = [(0x0010_0000, 0); 2];
+    let file = build(alloc, &EXIT, &entries, &[], &[])?;
+    Ok(load(alloc, &file)?)
+}
+
 /// What is wrong with a history of two blocks.
 fn judged(
     alloc: Global,
@@ -70,17 +78,15 @@ fn judged(
 /// Two threads exit in either order; a block of three turns is wrong, at its line.
 #[test]
 fn own_histories_are_checked(rt: HostRuntime) -> Result<(), Fail> {
-    let entries = [(0x0010_0000, 0), (0x0010_0000, 0)];
-    let file = build(rt.alloc(), &EXIT, &entries, &[], &[])?;
-    let image = load(rt.alloc(), &file)?;
+    let image = two_exits(rt.alloc())?;
     let wrong = Rejected {
         line: 2,
         reason: Reason::Block,
     };
     let found = judged(rt.alloc(), &image, exits(0, 2), exits(1, 2))?;
-    assert!(rt; found == None);
+    assert!(rt; found.is_none());
     let found = judged(rt.alloc(), &image, exits(1, 2), exits(0, 2))?;
-    assert!(rt; found == None);
+    assert!(rt; found.is_none());
     let found = judged(rt.alloc(), &image, exits(1, 2), exits(0, 3))?;
     assert!(rt; found == Some(wrong));
     Ok(())
@@ -102,13 +108,18 @@ const ONE: [u32; 12] = [
     0x0000_0073,
 ];
 
+/// The image of two threads of ONE.
+fn two_sections(alloc: Global) -> Result<Image, Fail> {
+    let entries = [(0x0010_0000, 0); 2];
+    let file = build(alloc, &ONE, &entries, &[0; 4], &[(0x0002_0000, 4)])?;
+    Ok(load(alloc, &file)?)
+}
+
 /// By one worker each of two threads has three blocks: up to its section, the section, and the rest.
 /// Both sections are taken, and each is by the worker of its thread.
 #[test]
 fn a_run_is_read_as_values(rt: HostRuntime) -> Result<(), Fail> {
-    let entries = [(0x0010_0000, 0), (0x0010_0000, 0)];
-    let file = build(rt.alloc(), &ONE, &entries, &[0; 4], &[(0x0002_0000, 4)])?;
-    let image = load(rt.alloc(), &file)?;
+    let image = two_sections(rt.alloc())?;
     let options = Options {
         workers: 1,
         fuel: 100,
@@ -116,7 +127,8 @@ fn a_run_is_read_as_values(rt: HostRuntime) -> Result<(), Fail> {
     };
     assert!(rt; image.guards() == 1);
     let (blocks, lock) = run_and_read(&rt, rt.alloc(), &image, options, 0)?;
-    assert_eq!(rt; blocks, 6);
-    assert_eq!(rt; (lock.sections, lock.taken, lock.adopted), (2, 2, 0));
+    assert!(rt; blocks == 6, "{blocks}");
+    let is_so = lock.sections == 2 && lock.taken == 2 && lock.adopted == 0;
+    assert!(rt; is_so, "{lock:?}");
     Ok(())
 }

@@ -37,19 +37,9 @@ impl fmt::Display for Row {
 
 impl Columns {
     fn of(instr: &Instr) -> Columns {
-        let none = Columns {
-            rd: None,
-            rs1: None,
-            rs2: None,
-            imm: None,
-        };
-        match *instr {
+        let (rd, rs1, rs2, imm) = match *instr {
             Instr::Lui { rd, imm } | Instr::Auipc { rd, imm } | Instr::Jal { rd, off: imm } => {
-                Columns {
-                    rd: Some(rd),
-                    imm: Some(imm),
-                    ..none
-                }
+                (Some(rd), None, None, Some(imm))
             }
             Instr::Jalr { rd, rs1, off: imm }
             | Instr::Load {
@@ -59,26 +49,14 @@ impl Columns {
                 ..
             }
             | Instr::Imm { rd, rs1, imm, .. }
-            | Instr::Fence { rd, rs1, imm } => Columns {
-                rd: Some(rd),
-                rs1: Some(rs1),
-                imm: Some(imm),
-                ..none
-            },
-            Instr::Branch { rs1, rs2, off, .. } | Instr::Store { rs1, rs2, off, .. } => Columns {
-                rs1: Some(rs1),
-                rs2: Some(rs2),
-                imm: Some(off),
-                ..none
-            },
-            Instr::Op { rd, rs1, rs2, .. } => Columns {
-                rd: Some(rd),
-                rs1: Some(rs1),
-                rs2: Some(rs2),
-                ..none
-            },
-            Instr::Ecall | Instr::Ebreak => none,
-        }
+            | Instr::Fence { rd, rs1, imm } => (Some(rd), Some(rs1), None, Some(imm)),
+            Instr::Branch { rs1, rs2, off, .. } | Instr::Store { rs1, rs2, off, .. } => {
+                (None, Some(rs1), Some(rs2), Some(off))
+            }
+            Instr::Op { rd, rs1, rs2, .. } => (Some(rd), Some(rs1), Some(rs2), None),
+            Instr::Ecall | Instr::Ebreak => (None, None, None, None),
+        };
+        Columns { rd, rs1, rs2, imm }
     }
 }
 

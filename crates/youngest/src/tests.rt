@@ -1,6 +1,6 @@
 //! A run at a gate, by which the order of the waiters shows.
 
-use std::alloc::Global;
+use std::alloc::{AllocError, Global};
 use std::process::Abort;
 use std::str::from_utf8;
 use std::sync::atomic::{AtomicBool, Ordering};
@@ -104,64 +104,80 @@ fn second_section(report: &str) -> &str {
     lines.next().unwrap_or("")
 }
 
-/// Three workers run three threads of one section each. Worker 0 releases the lock while worker 1's
-/// thread waits for it, and after that worker 2's. It returns the worker that shipped the thread
-/// whose section worker 0 adopts next.
-fn served_first<R: Abort + Threads + Wait + Sync>(
-    rt: &R,
-    alloc: Global,
-    bound: u32,
-) -> Result<u32, Fail> {
-    let entry = (0x0010_0000, 0);
-    let file = build(
-        alloc,
-        &ONE,
-        &[entry, entry, entry],
-        &[0; 4],
-        &[(0x0002_0000, 4)],
-    )?;
+/// The file of three threads of one section each.
+fn three_sections(alloc: Global) -> Result<Vec<u8>, AllocError> {
+    let entries = [(0x0010_0000, 0); 3];
+    build(alloc, &ONE, &entries, &[0; 4], &[(0x0002_0000, 4)])
+}
+
+/// An observer that has seen nothing yet.
+fn usher_of<R: Wait + Sync>(rt: &R) -> Usher<'_, R> {
     let told = Told {
         claimed: [None; 3],
         shipped: [false; 3],
         released: false,
     };
-    let gate = Usher {
+    Usher {
         rt,
         told: Mutex::new(told),
         gave_up: AtomicBool::new(false),
-    };
+    }
+}
+
+/// Three workers run the three threads at this observer. It returns the report.
+fn report_at<R: Abort + Threads + Wait + Sync>(
+    rt: &R,
+    alloc: Global,
+    bound: u32,
+    gate: &Usher<'_, R>,
+) -> Result<Vec<u8>, AllocError> {
     let options = Options {
         workers: 3,
         fuel: 100,
         limit: 8,
     };
-    let mut source = MemSource::new(file, 4096, Vec::new(alloc));
+    let mut source = MemSource::new(three_sections(alloc)?, 4096, Vec::new(alloc));
     let mut sink = MemSink::new(alloc, 65_536, 4096, Vec::new(alloc))?;
     let maker = Youngest { rt, bound };
-    let status = run_guest(rt, alloc, options, &maker, &mut source, &mut sink, &gate);
-    assert_eq!(rt; status, Status::Done);
-    assert!(rt; !gate.gave_up.load(Ordering::SeqCst));
-    let told = *gate.told.lock(rt);
-    let section = second_section(from_utf8(sink.written()).unwrap_or(""));
+    let status = run_guest(rt, alloc, options, &maker, &mut source, &mut sink, gate);
+    assert!(rt; status == Status::Done, "{status:?}");
+    Vec::from_slice(alloc, sink.written())
+}
+
+/// Which of workers 1 and 2 first claimed the thread whose section of worker 0 this line shows; 0 if
+/// neither did.
+fn shipper(alloc: Global, told: &Told, line: &str) -> Result<u32, AllocError> {
     for worker in 1..3 {
         let thread = told.claimed[worker as usize].unwrap_or(0);
         let name = format!(in alloc; " thread {thread} turns 7 held 0 kind adopted worker 0 ")?;
-        if section.contains(name.as_str()) {
+        if line.contains(name.as_str()) {
             return Ok(worker);
         }
     }
     Ok(0)
 }
 
+/// Worker 0 releases the lock while worker 1's thread waits for it, and after that worker 2's. It
+/// returns the worker that shipped the thread whose section worker 0 adopts next.
+fn served_first<R: Abort + Threads + Wait + Sync>(
+    rt: &R,
+    alloc: Global,
+    bound: u32,
+) -> Result<u32, AllocError> {
+    let gate = usher_of(rt);
+    let report = report_at(rt, alloc, bound, &gate)?;
+    assert!(rt; !gate.gave_up.load(Ordering::SeqCst));
+    let told = *gate.told.lock(rt);
+    let section = second_section(from_utf8(&report).unwrap_or(""));
+    shipper(alloc, &told, section)
+}
+
 /// The youngest waiter is served first, if and only if the bound lets the older one be passed over.
 #[test]
 fn the_youngest_waiter_is_served_first_within_the_bound(rt: HostRuntime) -> Result<(), Fail> {
     for (bound, worker) in [(0, 1), (1, 2)] {
-        assert_eq!(rt;
-            served_first(&rt, rt.alloc(), bound)?,
-            worker,
-            "bound {bound}"
-        );
+        let first = served_first(&rt, rt.alloc(), bound)?;
+        assert!(rt; first == worker, "bound {bound}: {first}");
     }
     Ok(())
 }

@@ -1,6 +1,6 @@
 //! What loads, stores and guest calls do with five guards of 4 bytes, 8 bytes apart.
 
-use super::{STORED, check_told, image_from, moved, regs_of};
+use super::{STORED, check_told, image_from, moved, put_in, regs_of};
 use Call::{Lock, Sleep, Unlock};
 use Fault::{BadCall, BadLock, LockOrder, Misaligned, NotHeld, Store, Unguarded};
 use Region::{Guard, Private, Text};
@@ -8,7 +8,7 @@ use std::alloc::Global;
 use std::process::Abort;
 use std::test::Fail;
 use tc_elf::image::{Image, Region};
-use tc_exec::outcome::{Act, Call, Put, Want};
+use tc_exec::outcome::{Act, Call, Want};
 use tc_isa::fault::Fault;
 use tc_isa::held::Held;
 use tc_isa::regs::Regs;
@@ -120,7 +120,11 @@ pub(super) fn held_of(locks: &[u32]) -> Held {
 }
 
 /// The act of a call: LOCK brings its answer to x10, and the others that come back bring 0.
-fn called(regs: Regs, call: Call, answer: u32) -> Option<Act> {
+fn called(regs: Regs, outcome: Result<Call, Fault>, answer: u32) -> Option<Act> {
+    let call = match outcome {
+        Ok(call) => call,
+        Err(fault) => return Some(Act::Faulted(fault)),
+    };
     let regs = match call {
         Lock(_) => moved(regs, 10, answer, CODE + 4)?,
         Unlock(_) | Sleep(_) => moved(regs, 10, 0, CODE + 4)?,
@@ -129,29 +133,41 @@ fn called(regs: Regs, call: Call, answer: u32) -> Option<Act> {
     Some(Act::Called { call, regs })
 }
 
+/// What a load of a word wants and does, whose answer is STORED.
+fn told_of_load(regs: Regs, addr: u32, place: Result<Region, Fault>) -> Option<(Want, Act)> {
+    let region = match place {
+        Ok(region) => region,
+        Err(fault) => return Some((Want::Nothing, Act::Faulted(fault))),
+    };
+    let want = Want::Load {
+        region,
+        addr,
+        width: 4,
+    };
+    let next = Act::Next {
+        regs: moved(regs, 10, STORED, CODE + 4)?,
+        put: None,
+    };
+    Some((want, next))
+}
+
 #[test]
 fn loads_lie_in_guards_that_are_held(rt: HostRuntime) -> Result<(), Fail> {
     let image = image_of(&rt, rt.alloc(), LW)?;
     for (locks, addr, place) in LOADS.iter().copied() {
         let regs = regs_of(CODE, addr, 0).ok_or("a register")?;
-        let next = moved(regs, 10, STORED, CODE + 4).ok_or("a register")?;
-        let told = match place {
-            Ok(region) => (
-                Want::Load {
-                    region,
-                    addr,
-                    width: 4,
-                },
-                Act::Next {
-                    regs: next,
-                    put: None,
-                },
-            ),
-            Err(fault) => (Want::Nothing, Act::Faulted(fault)),
-        };
+        let told = told_of_load(regs, addr, place).ok_or("a register")?;
         check_told(&rt, rt.alloc(), &image, held_of(locks), regs, STORED, told)?;
     }
     Ok(())
+}
+
+/// What a store of STORED does.
+fn act_of_store(regs: Regs, addr: u32, place: Result<Region, Fault>) -> Option<Act> {
+    match place {
+        Ok(region) => put_in(regs, region, addr, 4, STORED),
+        Err(fault) => Some(Act::Faulted(fault)),
+    }
 }
 
 #[test]
@@ -159,38 +175,34 @@ fn stores_lie_in_guards_that_are_held(rt: HostRuntime) -> Result<(), Fail> {
     let image = image_of(&rt, rt.alloc(), SW)?;
     for (locks, addr, place) in STORES.iter().copied() {
         let regs = regs_of(CODE, addr, STORED).ok_or("a register")?;
-        let next = moved(regs, 0, 0, CODE + 4).ok_or("a register")?;
-        let stored = match place {
-            Ok(region) => Act::Next {
-                regs: next,
-                put: Some(Put {
-                    region,
-                    addr,
-                    width: 4,
-                    value: STORED,
-                }),
-            },
-            Err(fault) => Act::Faulted(fault),
-        };
-        let told = (Want::Nothing, stored);
+        let act = act_of_store(regs, addr, place).ok_or("a register")?;
+        let told = (Want::Nothing, act);
         check_told(&rt, rt.alloc(), &image, held_of(locks), regs, 1, told)?;
     }
     Ok(())
 }
 
+/// Asserts what a call does, if its answer is this.
+fn check_called(
+    rt: &impl Abort,
+    alloc: Global,
+    image: &Image,
+    row: Called,
+    answer: u32,
+) -> Result<(), Fail> {
+    let (locks, x17, x10, result) = row;
+    let regs = regs_of(CODE, x17, x10).ok_or("a register")?;
+    let act = called(regs, result, answer).ok_or("a register")?;
+    let told = (Want::Nothing, act);
+    check_told(rt, alloc, image, held_of(locks), regs, answer, told)
+}
+
 #[test]
 fn calls_are_checked_in_their_order(rt: HostRuntime) -> Result<(), Fail> {
     let image = image_of(&rt, rt.alloc(), ECALL)?;
-    for (locks, x17, x10, result) in CALLS.iter().copied() {
-        let regs = regs_of(CODE, x17, x10).ok_or("a register")?;
-        for answer in [0, 1] {
-            let act = match result {
-                Ok(call) => called(regs, call, answer).ok_or("a register")?,
-                Err(fault) => Act::Faulted(fault),
-            };
-            let told = (Want::Nothing, act);
-            check_told(&rt, rt.alloc(), &image, held_of(locks), regs, answer, told)?;
-        }
+    for row in CALLS.iter().copied() {
+        check_called(&rt, rt.alloc(), &image, row, 0)?;
+        check_called(&rt, rt.alloc(), &image, row, 1)?;
     }
     Ok(())
 }
