@@ -220,7 +220,7 @@ class Contracts(Case):
         most = max(map(int, re.findall(r"(?m)^blocks (\d+)$", (ROOT / "crates/answers/stdin").read_text())))
         for said in (f"{words[code.count('unsafe {')]} calls are `unsafe`", f"{words[code.count('unsafe {')]} calls take bytes",
                      f"the {words[len(limits.SHAPES)].lower()} forms", f"{offers} offers", f"{','.join(piece)} blocks",
-                     f"Facts of {words[len([*ROOT.glob('crates/guest_facts/data/*')])].lower()} guests", f"a log of {most:,} blocks"):
+                     f"Facts of {words[len([*ROOT.glob('crates/answers/data/*')])].lower()} guests", f"a log of {most:,} blocks"):
             self.assertIn(said, text)
 
     def test_mutants_are_few(self) -> None:

@@ -6,6 +6,7 @@
 //! kind. Other lines ask: each runs the program once or more, through its top call, and compares.
 //! Differences are printed, and at the end how many runs agree. The modules define the lines.
 //!
+//! - `file NAME`: the file is the one of this name in the folder `data`.
 //! - `row`: what the lines say before one asks. `guest`: lines of the file. `outside`: lines of the
 //!   source and the sink, and a run with these. `answer`: lines of the answer, and whether a run fits.
 //! - `ask`: lines that ask once. `many`: lines that ask for each of many faults.
@@ -21,6 +22,7 @@ mod row;
 use ask::Tally;
 use row::Row;
 use std::alloc::{AllocError, Global};
+use std::fs;
 use std::io::{self, BufRead, BufReader};
 use std::sync::Wait;
 use std::thread::Threads;
@@ -61,7 +63,10 @@ fn main(rt: HostRuntime) -> io::Result<()> {
     let mut tally = Tally::new(alloc);
     for line in BufReader::new(alloc, rt.reader())?.lines(alloc) {
         let line = line?;
-        take(&rt, alloc, &mut row, &mut tally, line.as_str())?;
+        match line.as_str().strip_prefix("file ") {
+            Some(name) => row.file = fs::read(&rt, name)?,
+            None => take(&rt, alloc, &mut row, &mut tally, line.as_str())?,
+        }
     }
     println!(rt;
         "{}{} runs: {} agree",

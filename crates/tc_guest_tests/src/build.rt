@@ -2,14 +2,17 @@
 //! 2.40 and by LLVM 14, which agree, from text that was written from the description of the guest;
 //! readelf finds the headers and the note of the smallest file as described.
 
-use crate::parts::{check_bytes, check_guards, check_ranges, check_threads, check_words};
+use crate::parts::{has_bytes, has_code_and_data, has_guards, has_threads, has_words, image_of};
 use std::alloc::{AllocError, Global};
-use std::process::Abort;
 use std::test::Fail;
 use tc_build::build::{MAX_CODE_WORDS, MAX_FILL, build};
 use tc_build::generate::generate;
 use tc_elf::image::Image;
-use tc_elf::load::load;
+
+/// Where the code and the data begin.
+const CODE: u32 = 0x0010_0000;
+
+const DATA: u32 = 0x0002_0000;
 
 /// The code of one round of each thread.
 const ONE_ROUND: [u32; 54] = [
@@ -41,23 +44,6 @@ const ONE_ROUND: [u32; 54] = [
     0x000202b7, 0x00000513, 0x00300893, 0x00000073, 0x05d00893, 0x00000073,
 ];
 
-/// The FNV-1a checksum of bytes, of 32 bits.
-fn checksum(bytes: &[u8]) -> u32 {
-    let mut sum = 0x811c_9dc5u32;
-    for byte in bytes {
-        sum = (sum ^ u32::from(*byte)).wrapping_mul(0x0100_0193);
-    }
-    sum
-}
-
-/// Asserts that an image has two ranges: code of this length in bytes at 0x00100000, and data at
-/// 0x00020000.
-fn check_code_and_data<R: Abort>(rt: &R, image: &Image, code: u32, data: u32) {
-    let code = (0x0010_0000, code, false, true);
-    let data = (0x0002_0000, data, true, false);
-    check_ranges(rt, image, &[code, data]);
-}
-
 /// Its threads and its guards.
 const ROUND_ENTRIES: [(u32, u32); 4] = [
     (0x0010_0000, 0),
@@ -73,26 +59,45 @@ const ROUND_GUARDS: [(u32, u32); 4] = [
     (0x0002_0030, 16),
 ];
 
+/// The image of one round.
+fn one_round(alloc: Global) -> Result<Image, Fail> {
+    let file = generate(alloc, 1)?;
+    image_of(alloc, &file)
+}
+
 #[test]
 fn one_round_is_loaded_as_other_tools_write_it(rt: HostRuntime) -> Result<(), Fail> {
-    let file = generate(rt.alloc(), 1)?;
-    assert!(rt; file.len() == 524);
-    let image = load(rt.alloc(), &file)?;
-    check_threads(&rt, &image, &ROUND_ENTRIES);
-    check_guards(&rt, &image, &ROUND_GUARDS);
-    check_code_and_data(&rt, &image, 216, 64);
+    let image = one_round(rt.alloc())?;
+    assert!(rt; has_threads(&image, &ROUND_ENTRIES) && has_guards(&image, &ROUND_GUARDS));
+    assert!(rt; has_code_and_data(&image, (CODE, 216), (DATA, 64)));
     Ok(())
+}
+
+/// Whether an image has the words of one round.
+fn has_one_round(image: &Image) -> bool {
+    for (i, word) in ONE_ROUND.iter().enumerate() {
+        if image.fetch(CODE + 4 * i as u32) != Some(*word) {
+            return false;
+        }
+    }
+    true
 }
 
 #[test]
 fn one_round_has_the_words_that_other_tools_write(rt: HostRuntime) -> Result<(), Fail> {
-    let file = generate(rt.alloc(), 1)?;
-    let image = load(rt.alloc(), &file)?;
-    for (i, word) in ONE_ROUND.iter().enumerate() {
-        check_words(&rt, &image, &[(0x0010_0000 + 4 * i as u32, Some(*word))]);
-    }
+    let image = one_round(rt.alloc())?;
+    assert!(rt; has_one_round(&image));
     assert!(rt; image.bytes(0x0002_0030, 8) == Some([0, 0, 0, 0, 0xe8, 3, 0, 0].as_slice()));
     Ok(())
+}
+
+/// The FNV-1a checksum of bytes, of 32 bits.
+fn checksum(bytes: &[u8]) -> u32 {
+    let mut sum = 0x811c_9dc5u32;
+    for byte in bytes {
+        sum = (sum ^ u32::from(*byte)).wrapping_mul(0x0100_0193);
+    }
+    sum
 }
 
 #[test]
@@ -103,10 +108,7 @@ fn files_are_as_other_tools_write_them(rt: HostRuntime) -> Result<(), Fail> {
         (2_000, 336_356, 0xd101_612f),
     ] {
         let file = generate(rt.alloc(), rounds)?;
-        assert!(rt;
-            file.len() == length && checksum(&file) == sum,
-            "{rounds} rounds"
-        );
+        assert!(rt; (file.len(), checksum(&file)) == (length, sum));
     }
     Ok(())
 }
@@ -130,17 +132,6 @@ fn built(alloc: Global) -> Result<Vec<u8>, AllocError> {
     )
 }
 
-#[test]
-fn a_built_file_is_loaded_as_described(rt: HostRuntime) -> Result<(), Fail> {
-    let file = built(rt.alloc())?;
-    assert!(rt; file.len() == 253);
-    let image = load(rt.alloc(), &file)?;
-    check_threads(&rt, &image, &ENTRIES);
-    check_guards(&rt, &image, &GUARDS);
-    check_code_and_data(&rt, &image, 8, 25);
-    Ok(())
-}
-
 /// Words of code at its addresses, and bytes.
 static BUILT_WORDS: [(u32, Option<u32>); 4] = [
     (0x0010_0000, Some(0x05d0_0893)),
@@ -162,27 +153,38 @@ static BUILT_BYTES: [(u32, Option<u8>); 10] = [
     (0x0002_0019, None),
 ];
 
+/// Whether an image is as described.
+fn is_built(image: &Image) -> bool {
+    has_threads(image, &ENTRIES)
+        && has_guards(image, &GUARDS)
+        && has_code_and_data(image, (CODE, 8), (DATA, 25))
+        && has_words(image, &BUILT_WORDS)
+        && has_bytes(image, &BUILT_BYTES)
+}
+
 #[test]
-fn a_built_file_has_its_words_and_bytes(rt: HostRuntime) -> Result<(), Fail> {
+fn a_built_file_is_loaded_as_described(rt: HostRuntime) -> Result<(), Fail> {
     let file = built(rt.alloc())?;
     assert!(rt; file.len() == 253);
-    let image = load(rt.alloc(), &file)?;
-    check_words(&rt, &image, &BUILT_WORDS);
-    check_bytes(&rt, &image, &BUILT_BYTES);
+    let image = image_of(rt.alloc(), &file)?;
+    assert!(rt; is_built(&image));
     Ok(())
+}
+
+/// A file with as much code and as many bytes of data as a file may have.
+fn largest(alloc: Global) -> Result<Vec<u8>, AllocError> {
+    let mut code = Vec::new(alloc);
+    code.resize(MAX_CODE_WORDS, 0x0000_0073)?;
+    let mut fill = Vec::new(alloc);
+    fill.resize(MAX_FILL, b'x')?;
+    build(alloc, &code, &[(0x001c_34fc, 0)], &fill, &[])
 }
 
 #[test]
 fn builds_up_to_the_limits(rt: HostRuntime) -> Result<(), Fail> {
-    let mut code = Vec::new(rt.alloc());
-    code.resize(200_000, 0x0000_0073)?;
-    assert!(rt; code.len() == MAX_CODE_WORDS);
-    let mut fill = Vec::new(rt.alloc());
-    fill.resize(65_536, b'x')?;
-    assert!(rt; fill.len() == MAX_FILL);
-    let file = build(rt.alloc(), &code, &[(0x001c_34fc, 0)], &fill, &[])?;
-    let image = load(rt.alloc(), &file)?;
-    check_threads(&rt, &image, &[(0x001c_34fc, 0)]);
-    check_code_and_data(&rt, &image, 800_000, 65_536);
+    assert!(rt; MAX_CODE_WORDS == 200_000 && MAX_FILL == 65_536);
+    let image = image_of(rt.alloc(), &largest(rt.alloc())?)?;
+    assert!(rt; has_threads(&image, &[(0x001c_34fc, 0)]));
+    assert!(rt; has_code_and_data(&image, (CODE, 800_000), (DATA, 65_536)));
     Ok(())
 }

@@ -2,35 +2,17 @@ ghost use Rattle.std.specs.Prelude.{◌≡◌, ◌==◌, ℕ, true, false, None,
 ghost use Rattle.tc_segment.specs.View.{IsAtRest};
 ghost use Rattle.tc_context.specs.Whole.{set_of};
 
-use crate::guests::{TWO_LOCKS, image_of};
+use crate::guests::{SLEEPING, TWO_LOCKS, WITH_OWN, image_of};
 use std::alloc::{AllocError, Global};
 use std::process::Abort;
 use std::test::Fail;
 use tc_context::package::{MAX_NUMBER, Package};
 use tc_elf::image::Image;
-use tc_elf::refusal::Refusal;
 use tc_isa::held::Held;
 use tc_isa::reg::Reg;
 use tc_journal::block::{Block, End, Kind};
 use tc_segment::state::LockState;
 use tc_turn::status::Status;
-
-/// `TWO_LOCKS`, but with the argument 7, data that is not zero, and a word behind the guards, which is
-/// the thread's own.
-fn with_own(alloc: Global) -> Result<Image, Refusal> {
-    let mut words = Vec::from_array(alloc, TWO_LOCKS)?;
-    words[33] = 12;
-    words[34] = 12;
-    words[46] = 7;
-    words[65] = 0x4433_2211;
-    words[66] = 0x8877_6655;
-    words.push(0xccbb_aa99)?;
-    image_of(alloc, &words)
-}
-
-fn two_locks(alloc: Global) -> Result<Image, Refusal> {
-    image_of(alloc, &TWO_LOCKS)
-}
 
 /// Runs a block of a package by worker 0, which ends so, and seals it.
 fn step<R: Abort>(
@@ -146,26 +128,32 @@ fn check_journal<R: Abort>(rt: &R, lock: &LockState, entries: &[Entry<'_>]) {
 
 /// A package before its first block, of a thread with the argument 7.
 fn check_start<R: Abort>(rt: &R, package: &Package) {
-    assert!(rt; package.thread() == 0 && package.fuel() == 100);
-    assert!(rt; package.regs().get(Reg::of(10)) == 7);
-    assert!(rt; package.status() == Status::Running);
-    assert!(rt; package.held() == Held::none());
-    assert!(rt; package.log().is_empty() && !package.pending());
-    assert!(rt; package.granted().is_none());
-    assert!(rt; package.fits(7));
+    let numbers = [
+        package.thread(),
+        package.fuel(),
+        package.regs().get(Reg::of(10)),
+    ];
+    assert!(rt; numbers == [0, 100, 7]);
+    assert!(rt; package.status() == Status::Running && package.held() == Held::none());
+    let empty = [package.log().is_empty(), package.granted().is_none()];
+    assert!(rt; empty == [true, true]);
+    assert!(rt; [package.pending(), package.fits(7)] == [false, true]);
 }
 
-/// A package has the bytes of its thread: a guard and the code are not the thread's own.
+/// The bytes of a thread: a guard and the code are not its own.
+static BYTES: [(u32, Option<u8>); 6] = [
+    (0x0002_0008, Some(0x99)),
+    (0x0002_000b, Some(0xcc)),
+    (0x7fff_c000, Some(0)),
+    (0x0002_0000, None),
+    (0x0002_0007, None),
+    (0x0010_0000, None),
+];
+
+/// A package has the bytes of its thread.
 fn check_bytes<R: Abort>(rt: &R, package: &Package) {
-    for (addr, byte) in [
-        (0x0002_0008, Some(0x99)),
-        (0x0002_000b, Some(0xcc)),
-        (0x7fff_c000, Some(0)),
-        (0x0002_0000, None),
-        (0x0002_0007, None),
-        (0x0010_0000, None),
-    ] {
-        assert!(rt; package.byte(addr) == byte, "at {addr}");
+    for (addr, byte) in &BYTES {
+        assert!(rt; package.byte(*addr) == *byte, "at {addr}");
     }
 }
 
@@ -176,15 +164,18 @@ fn start<R: Abort>(rt: &R, alloc: Global, image: &Image) -> Result<(), AllocErro
     check_start(rt, &package);
     assert!(rt; package.want(image).is_none());
     check_bytes(rt, &package);
-    for number in 1..4 {
-        assert!(rt; package.next_number() == number);
-    }
+    let numbers = [
+        package.next_number(),
+        package.next_number(),
+        package.next_number(),
+    ];
+    assert!(rt; numbers == [1, 2, 3]);
     Ok(())
 }
 
 #[test]
 fn a_package_starts_without_a_lock(rt: HostRuntime) -> Result<(), Fail> {
-    let image = with_own(rt.alloc())?;
+    let image = image_of(rt.alloc(), &WITH_OWN)?;
     start(&rt, rt.alloc(), &image)?;
     Ok(())
 }
@@ -205,13 +196,9 @@ fn sleep<R: Abort>(rt: &R, alloc: Global, image: &Image) -> Result<(), AllocErro
     Ok(())
 }
 
-/// A thread that sleeps for 9 blocks where that of `TWO_LOCKS` takes lock 0.
 #[test]
 fn a_package_sleeps(rt: HostRuntime) -> Result<(), Fail> {
-    let mut words = TWO_LOCKS;
-    words[51] = 0x0090_0513;
-    words[52] = 0x0030_0893;
-    let image = image_of(rt.alloc(), &words)?;
+    let image = image_of(rt.alloc(), &SLEEPING)?;
     sleep(&rt, rt.alloc(), &image)?;
     Ok(())
 }
@@ -226,10 +213,47 @@ fn grant_last<R: Abort>(rt: &R, alloc: Global, image: &Image) -> Result<(), Allo
     Ok(())
 }
 
-#[test]
-fn a_lock_comes_with_the_greatest_number(rt: HostRuntime) -> Result<(), Fail> {
-    let image = two_locks(rt.alloc())?;
-    grant_last(&rt, rt.alloc(), &image)?;
+/// Runs a package to a LOCK, and grants it that lock.
+fn grant_next<R: Abort>(
+    rt: &R,
+    alloc: Global,
+    package: &mut Package,
+    image: &Image,
+    stamp: u64,
+    lock: u32,
+) -> Result<(), AllocError>
+    requires image { «package».old.image ≡ image.now }
+    requires absent { set_of «package».old.context lock ≡ false }
+    ensures image { «package».new.image ≡ «package».old.image }
+    ensures locks { OnOk result ((k : ℕ) → set_of «package».new.context k ≡ (if k == lock then true else set_of «package».old.context k)) }
+{
+    step(rt, package, image, stamp, End::Wants(lock))?;
+    let number = package.next_number();
+    grant_new(rt, alloc, package, image, lock, number)
+}
+
+/// Runs a package to its UNLOCK of lock 0, and takes that lock out.
+fn leave_zero<R: Abort>(rt: &R, package: &mut Package, image: &Image) -> Result<(), AllocError>
+    requires image { «package».old.image ≡ image.now }
+    requires here { set_of «package».old.context 0 ≡ true }
+    ensures image { «package».new.image ≡ «package».old.image }
+    ensures locks { OnOk result ((k : ℕ) → set_of «package».new.context k ≡ (if k == 0 then false else set_of «package».old.context k)) }
+{
+    step(rt, package, image, 2, End::Unlocked(0))?;
+    let lock = take_out(rt, package, 0, 1);
+    check_zero(rt, &lock);
+    Ok(())
+}
+
+/// Runs a package from its UNLOCK of lock 0 to that of lock 1, and takes that lock out.
+fn leave_one<R: Abort>(rt: &R, package: &mut Package, image: &Image) -> Result<(), AllocError>
+    requires image { «package».old.image ≡ image.now }
+    requires here { set_of «package».old.context 1 ≡ true }
+    ensures image { «package».new.image ≡ «package».old.image }
+{
+    step(rt, package, image, 3, End::Unlocked(1))?;
+    let lock = take_out(rt, package, 1, 2);
+    check_one(rt, &lock);
     Ok(())
 }
 
@@ -237,28 +261,22 @@ fn a_lock_comes_with_the_greatest_number(rt: HostRuntime) -> Result<(), Fail> {
 fn run_through<R: Abort>(rt: &R, alloc: Global, image: &Image) -> Result<(), AllocError> {
     assert!(rt; image.threads() == 1);
     let mut package = Package::start(alloc, image, 0, 100)?;
-    step(rt, &mut package, image, 0, End::Wants(0))?;
-    let first = package.next_number();
-    grant_new(rt, alloc, &mut package, image, 0, first)?;
-    step(rt, &mut package, image, 1, End::Wants(1))?;
-    let second = package.next_number();
-    grant_new(rt, alloc, &mut package, image, 1, second)?;
-    step(rt, &mut package, image, 2, End::Unlocked(0))?;
-    let zero = take_out(rt, &mut package, 0, 1);
-    step(rt, &mut package, image, 3, End::Unlocked(1))?;
-    let one = take_out(rt, &mut package, 1, 2);
+    grant_next(rt, alloc, &mut package, image, 0, 0)?;
+    grant_next(rt, alloc, &mut package, image, 1, 1)?;
+    leave_zero(rt, &mut package, image)?;
+    leave_one(rt, &mut package, image)?;
     step(rt, &mut package, image, 4, End::Exit)?;
     check_end(rt, &package);
-    check_zero(rt, &zero);
-    check_one(rt, &one);
     Ok(())
 }
 
-/// The blocks of a package from its start to its end, and the journals of its locks.
+/// The blocks of a package from its start to its end, and the journals of its locks; and a lock that
+/// comes with the greatest number.
 #[test]
-fn a_package_runs_to_its_end(rt: HostRuntime) -> Result<(), Fail> {
-    let image = two_locks(rt.alloc())?;
+fn a_package_takes_two_locks(rt: HostRuntime) -> Result<(), Fail> {
+    let image = image_of(rt.alloc(), &TWO_LOCKS)?;
     run_through(&rt, rt.alloc(), &image)?;
+    grant_last(&rt, rt.alloc(), &image)?;
     Ok(())
 }
 
@@ -284,19 +302,17 @@ fn whole_log() -> [Block; 5] {
 /// The package after its exit.
 fn check_end<R: Abort>(rt: &R, package: &Package) {
     assert!(rt; package.log() == whole_log().as_slice());
-    assert!(rt; package.status() == Status::Exited);
-    assert!(rt; package.fuel() == 86);
+    assert!(rt; package.status() == Status::Exited && package.fuel() == 86);
     let regs = package.regs();
-    assert!(rt; regs.pc() == 0x0010_0034);
-    assert!(rt; regs.get(Reg::of(10)) == 0 && regs.get(Reg::of(17)) == 93);
+    let words = [regs.pc(), regs.get(Reg::of(10)), regs.get(Reg::of(17))];
+    assert!(rt; words == [0x0010_0034, 0, 93]);
 }
 
 /// A lock of this number after one section, in which nobody wrote to its guard.
 fn check_lock<R: Abort>(rt: &R, lock: &LockState, number: u32) {
-    assert!(rt; lock.number() == number && lock.limit() == 4);
+    assert!(rt; [lock.number(), lock.limit(), lock.run()] == [number, 4, 0]);
     assert!(rt; lock.bytes() == [0, 0, 0, 0].as_slice());
-    assert!(rt; lock.sections() == 1);
-    assert!(rt; lock.run() == 0 && !lock.broken());
+    assert!(rt; lock.sections() == 1 && !lock.broken());
 }
 
 /// Lock 0 after its section. Its foreign words are the answer of its own LOCK, in block 1, and that
@@ -309,8 +325,12 @@ fn check_zero<R: Abort>(rt: &R, lock: &LockState) {
     let released = block(2, 4, both, Kind::Taken, 0x0010_0014, End::Unlocked(0));
     check_journal(rt, lock, &[(taken, 98, &[0]), (released, 95, &[0])]);
     check_lock(rt, lock, 0);
-    assert!(rt; lock.allows(Kind::Taken, 3) && lock.allows(Kind::Granted, 3));
-    assert!(rt; !lock.allows(Kind::Adopted, 0));
+    let allowed = [
+        lock.allows(Kind::Taken, 3),
+        lock.allows(Kind::Granted, 3),
+        lock.allows(Kind::Adopted, 0),
+    ];
+    assert!(rt; allowed == [true, true, false]);
 }
 
 /// Lock 1 after its section. Its only foreign word is the answer of its own LOCK, in block 2. Block
@@ -322,8 +342,17 @@ fn check_one<R: Abort>(rt: &R, lock: &LockState) {
     let released = block(3, 3, second, Kind::On, 0x0010_0024, End::Unlocked(1));
     check_journal(rt, lock, &[(taken, 95, &[0]), (released, 91, &[])]);
     check_lock(rt, lock, 1);
-    assert!(rt; lock.allows(Kind::Taken, 3) && !lock.allows(Kind::Granted, 0));
-    assert!(rt; lock.allows(Kind::Adopted, 0) && !lock.allows(Kind::Adopted, 1));
+    let allowed = [
+        lock.allows(Kind::Taken, 3),
+        lock.allows(Kind::Granted, 0),
+        lock.allows(Kind::Adopted, 0),
+        lock.allows(Kind::Adopted, 1),
+    ];
+    assert!(rt; allowed == [true, false, true, false]);
     // But not to the same thread.
-    assert!(rt; !lock.passes_to(Kind::Adopted, 0) && lock.passes_to(Kind::Adopted, 1));
+    let passes = [
+        lock.passes_to(Kind::Adopted, 0),
+        lock.passes_to(Kind::Adopted, 1),
+    ];
+    assert!(rt; passes == [false, true]);
 }

@@ -17,12 +17,12 @@ pub(crate) fn turn(thread: u32, number: u64) -> Turn
 
 pub(crate) const ROUNDS: u64 = 1000;
 
-/// What the threads share beside the queue: the number of the last turn of each thread to which the
-/// lock was handed, how many threads started, and the count. The count is read and written in two
-/// steps, so that it falls short if two threads have the lock at once.
+/// What the threads share beside the queue: the last turn to which the lock was handed, as a word,
+/// how many threads started, and the count. The count is read and written in two steps, so that it
+/// falls short if two threads have the lock at once.
 #[derive(Drop)]
 pub(crate) struct Shared {
-    handed: [AtomicU64; 4],
+    handed: AtomicU64,
     started: AtomicU64,
     pub(crate) count: AtomicU64,
 }
@@ -30,22 +30,22 @@ pub(crate) struct Shared {
 /// What they share at the start.
 pub(crate) fn at_the_start() -> Shared {
     Shared {
-        handed: [
-            AtomicU64::new(0),
-            AtomicU64::new(0),
-            AtomicU64::new(0),
-            AtomicU64::new(0),
-        ],
+        handed: AtomicU64::new(0),
         started: AtomicU64::new(0),
         count: AtomicU64::new(0),
     }
 }
 
-fn await_lock<R: Wait>(rt: &R, shared: &Shared, own: Turn)
-    requires { IsTurn 4 own }
-{
+/// The word of a turn of four threads. That of a first turn is not 0.
+fn word_of(turn: Turn) -> u64 {
+    turn.number.wrapping_mul(4) | turn.thread as u64
+}
+
+/// Only who has the lock hands it over, so the word stays until the thread that awaits it reads it.
+fn await_lock<R: Wait>(rt: &R, shared: &Shared, own: Turn) {
+    let word = word_of(own);
     for _ in rt.forever() {
-        if shared.handed[own.thread as usize].load(Ordering::SeqCst) == own.number {
+        if shared.handed.load(Ordering::SeqCst) == word {
             return;
         }
         thread::yield_now();
@@ -72,7 +72,7 @@ fn unlock<R: Wait, Q: Waiters>(rt: &R, queue: &Q, shared: &Shared, seat: &mut Q:
 {
     for _ in rt.forever() {
         if let Some(next) = queue.next(rt, seat, own) {
-            shared.handed[next.thread as usize].store(next.number, Ordering::SeqCst);
+            shared.handed.store(word_of(next), Ordering::SeqCst);
             return;
         }
         if let Departure::Left = queue.leave(rt, seat, own) {

@@ -32,8 +32,7 @@ fn look_around<R: Abort>(rt: &R, hall: &Hall, pass: &mut Pass, words: [u64; 2])
     requires own { pass.old.table ≡ hall.now.table }
     ensures own { pass.new.table ≡ hall.now.table }
 {
-    assert!(rt; hall.look(pass, 0) == words[0] && hall.look(pass, 1) == words[1]);
-    assert!(rt; !hall.stopped(pass));
+    assert!(rt; [hall.look(pass, 0), hall.look(pass, 1)] == words && !hall.stopped(pass));
 }
 
 /// A pass misses lock 0, which is out while thread 0 is.

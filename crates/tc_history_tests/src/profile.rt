@@ -132,18 +132,17 @@ fn profile_of<R: Abort>(rt: &R, alloc: Global, image: &Image, lines: &str) -> Re
     Ok(profile)
 }
 
-/// The profile of a history has this text.
-fn check<R: Abort>(
+/// Whether the profile of a history has this text.
+fn is_told<R: Abort>(
     rt: &R,
     alloc: Global,
     image: &Image,
     lines: &str,
     text: &str,
-) -> Result<(), Fail> {
+) -> Result<bool, Fail> {
     let profile = profile_of(rt, alloc, image, lines)?;
     let written = profile_text(alloc, image, &profile)?;
-    assert!(rt; written.as_slice() == text.as_bytes());
-    Ok(())
+    Ok(written.as_slice() == text.as_bytes())
 }
 
 #[test]
@@ -152,7 +151,8 @@ fn an_adopted_section_is_no_change_of_worker(rt: HostRuntime) -> Result<(), Fail
     let entries = [(0x0010_0000, 0); 2];
     let file = build(alloc, &ONE, &entries, &[0; 4], &[(DATA_START, 4)])?;
     let image = load(alloc, &file)?;
-    check(&rt, alloc, &image, ADOPTED, ADOPTED_PROFILE)
+    assert!(rt; is_told(&rt, alloc, &image, ADOPTED, ADOPTED_PROFILE)?);
+    Ok(())
 }
 
 #[test]
@@ -161,5 +161,6 @@ fn two_locks_of_one_thread_are_told_apart(rt: HostRuntime) -> Result<(), Fail> {
     let guards = [(DATA_START, 4), (DATA_START + 4, 4)];
     let file = build(alloc, &TWO_LOCKS, &[(0x0010_0000, 0)], &[0; 8], &guards)?;
     let image = load(alloc, &file)?;
-    check(&rt, alloc, &image, ALONE, ALONE_PROFILE)
+    assert!(rt; is_told(&rt, alloc, &image, ALONE, ALONE_PROFILE)?);
+    Ok(())
 }

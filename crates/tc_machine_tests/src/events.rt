@@ -1,12 +1,10 @@
-ghost use Rattle.std.specs.Prelude.{◌≤◌};
 ghost use Rattle.tc_core.specs.View.{IsCoreOf};
-ghost use Rattle.tc_isa.specs.declared.limits.TheConstants.{MAX_BATCH};
 
 use crate::deeds::Deed::{
     Adopt, Back, Claim, Commit, Enter, Finish, Grant, Leave, Park, SetFree, Ship, Take, Turn,
 };
 use crate::deeds::{Deed, event_of, times_of};
-use crate::guests::{DOZE, NEST, ONE, image_of};
+use crate::guests::{ALIKE, DOZE, NEST, ONE, OUT_OF_ORDER, image_of};
 use std::alloc::{AllocError, Global};
 use std::process::Abort;
 use std::test::Fail;
@@ -16,6 +14,7 @@ use tc_core::place::ThreadPlace::{At, Done, Parked, Ready, Waiting};
 use tc_core::place::{LockPlace, ThreadPlace};
 use tc_elf::image::Image;
 use tc_isa::held::Held;
+use tc_isa::limits::MAX_BATCH;
 use tc_journal::block::End;
 
 /// A worker, a thread, and what the one does with the other.
@@ -52,62 +51,180 @@ fn lock_place(core: &Core, lock: u32) -> LockPlace {
 }
 
 fn is_at(core: &Core, threads: Threads, locks: Locks) -> bool {
-    core.course(0).place == threads.0
-        && core.course(1).place == threads.1
-        && core.course(2).place == threads.2
-        && lock_place(core, 0) == locks.0
-        && lock_place(core, 1) == locks.1
+    let (first, second, third) = (core.course(0), core.course(1), core.course(2));
+    [first.place, second.place, third.place] == [threads.0, threads.1, threads.2]
+        && [lock_place(core, 0), lock_place(core, 1)] == [locks.0, locks.1]
 }
 
 /// Each row goes as it is written.
-fn walk<R: Abort>(rt: &R, core: &mut Core, image: &Image, rows: &[Scene])
+fn walk<R: Abort>(rt: &R, core: &mut Core, image: &Image, name: &str, rows: &[Scene])
     requires { IsCoreOf image.now core.old }
     ensures { IsCoreOf image.now core.new }
 {
     for (number, scene) in rows.iter().enumerate() {
         let (row, threads, locks) = *scene;
         let went = repeat(core, image, row) && is_at(core, threads, locks);
-        assert!(rt; went, "row {number}");
+        assert!(rt; went, "{name}: row {number}");
     }
 }
 
-/// A row, and whether it is enabled each time.
-type Try = (Row, bool);
+/// A row, and whether it is enabled each time: where a waiter is adopted, and where it is granted the
+/// lock. There an Adopt is a Grant, and a Grant is an Adopt.
+type Try = (Row, (bool, bool));
 
-/// Each is enabled, or not, as it is written beside it.
-fn try_all<R: Abort>(rt: &R, core: &mut Core, image: &Image, tries: &[Try])
+const YES: (bool, bool) = (true, true);
+
+const NO: (bool, bool) = (false, false);
+
+const ADOPTED: (bool, bool) = (true, false);
+
+/// The deed where a waiter is granted the lock.
+fn granted(deed: Deed) -> Deed {
+    match deed {
+        Adopt(lock) => Grant(lock),
+        Grant(lock) => Adopt(lock),
+        other => other,
+    }
+}
+
+/// A try where a waiter is adopted, or else is granted the lock.
+fn try_as(adopted: bool, one: Try) -> (Row, bool) {
+    let (row, enabled) = one;
+    if adopted {
+        (row, enabled.0)
+    } else {
+        ((row.0, row.1, granted(row.2)), enabled.1)
+    }
+}
+
+/// Each is enabled, or not, as it is written beside it. A waiter is adopted where the case has a
+/// limit.
+fn try_all<R: Abort>(rt: &R, core: &mut Core, image: &Image, case: &Case)
     requires { IsCoreOf image.now core.old }
     ensures { IsCoreOf image.now core.new }
 {
-    for (number, one) in tries.iter().enumerate() {
-        assert!(rt; repeat(core, image, one.0) == one.1, "try {number}");
+    for (number, one) in case.tries.iter().enumerate() {
+        let (row, enabled) = try_as(case.limit > 0, *one);
+        assert!(rt;
+            repeat(core, image, row) == enabled,
+            "{}: try {number}",
+            case.name
+        );
     }
 }
 
-/// What holds of a guest with so many workers and this limit: it goes as these rows say, the one
+/// A guest, how many workers, and the limit of sections in a row. It goes as these rows say, the one
 /// part behind the other, and then these tries do.
-fn check<R: Abort>(
-    rt: &R,
-    alloc: Global,
-    words: &[u32],
+struct Case {
+    name: &'static str,
+    guest: &'static [u32],
     workers: u32,
     limit: u32,
-    rows: [&[Scene]; 2],
-    tries: &[Try],
-) -> Result<(), Fail>
-    requires workers { (1 ≤ workers) × (workers ≤ 3) }
-    requires limit { limit ≤ MAX_BATCH }
+    rows: (&'static [Scene], &'static [Scene]),
+    tries: &'static [Try],
+}
+
+/// Does the rows of a case, and then its tries.
+fn go<R: Abort>(rt: &R, core: &mut Core, image: &Image, case: &Case)
+    requires { IsCoreOf image.now core.old }
+    ensures { IsCoreOf image.now core.new }
 {
-    let image = image_of(alloc, words)?;
-    let mut core = Core::new(alloc, &image, 100, workers, limit)?;
-    walk(rt, &mut core, &image, rows[0]);
-    walk(rt, &mut core, &image, rows[1]);
-    try_all(rt, &mut core, &image, tries);
+    walk(rt, core, image, case.name, case.rows.0);
+    walk(rt, core, image, case.name, case.rows.1);
+    try_all(rt, core, image, case);
+}
+
+/// What `check` shows, of the guest's image.
+fn check_image<R: Abort>(
+    rt: &R,
+    alloc: Global,
+    image: &Image,
+    case: &Case,
+) -> Result<(), AllocError> {
+    let (workers, limit) = (case.workers, case.limit);
+    assert!(rt; 1 <= workers && workers <= 3);
+    assert!(rt; limit <= MAX_BATCH);
+    let mut core = Core::new(alloc, image, 100, workers, limit)?;
+    go(rt, &mut core, image, case);
     Ok(())
 }
 
+/// A case goes as it says.
+fn check<R: Abort>(rt: &R, alloc: Global, case: &Case) -> Result<(), Fail> {
+    let image = image_of(alloc, case.guest)?;
+    check_image(rt, alloc, &image, case)?;
+    Ok(())
+}
+
+#[test]
+fn events_go_as_the_cases_say(rt: HostRuntime) -> Result<(), Fail> {
+    for case in &CASES {
+        check(&rt, rt.alloc(), case)?;
+    }
+    Ok(())
+}
+
+static CASES: [Case; 7] = [
+    Case {
+        name: "a waiter is adopted",
+        guest: &ONE,
+        workers: 2,
+        limit: 4,
+        rows: (&UP_TO_THE_WAIT, &FROM_THE_ADOPTION),
+        tries: &[],
+    },
+    Case {
+        name: "a waiter is granted the lock",
+        guest: &ONE,
+        workers: 2,
+        limit: 0,
+        rows: (&UP_TO_THE_WAIT, &FROM_THE_GRANT),
+        tries: &[],
+    },
+    Case {
+        name: "a thread sleeps with its lock",
+        guest: &DOZE,
+        workers: 2,
+        limit: 4,
+        rows: (&UP_TO_THE_WAIT, &FROM_THE_SLEEP),
+        tries: &[],
+    },
+    Case {
+        name: "each condition of a waiter that is adopted counts",
+        guest: &ALIKE,
+        workers: 3,
+        limit: 4,
+        rows: (&[], &[]),
+        tries: &CONDITIONS,
+    },
+    Case {
+        name: "each condition of a waiter that is granted the lock counts",
+        guest: &ALIKE,
+        workers: 3,
+        limit: 0,
+        rows: (&[], &[]),
+        tries: &CONDITIONS,
+    },
+    Case {
+        name: "a thread that ended at a lock enters no line",
+        guest: &OUT_OF_ORDER,
+        workers: 3,
+        limit: 4,
+        rows: (&[], &[]),
+        tries: &TO_THE_FAULT,
+    },
+    Case {
+        name: "only a thread that has slept is parked",
+        guest: &DOZE,
+        workers: 2,
+        limit: 4,
+        rows: (&UP_TO_THE_WAIT, &[]),
+        tries: &AROUND_THE_SLEEP,
+    },
+];
+
 /// Thread 0 runs to its lock and takes it, and thread 1 waits for it.
-static UP_TO_THE_WAIT: [Scene; 11] = [
+const UP_TO_THE_WAIT: [Scene; 11] = [
     ((0, 0, Claim), (At(0), Ready, Ready), (Free, Free)),
     ((0, 0, Turn(3)), (At(0), Ready, Ready), (Free, Free)),
     ((0, 0, Commit), (At(0), Ready, Ready), (Free, Free)),
@@ -122,7 +239,7 @@ static UP_TO_THE_WAIT: [Scene; 11] = [
 ];
 
 /// Thread 1 is adopted by worker 0, and both threads end.
-static FROM_THE_ADOPTION: [Scene; 16] = [
+const FROM_THE_ADOPTION: [Scene; 16] = [
     ((0, 0, Turn(6)), (At(0), Waiting(0), Ready), (With(0), Free)),
     ((0, 0, Commit), (At(0), Waiting(0), Ready), (Loose(0), Free)),
     ((0, 1, Adopt(0)), (At(0), At(0), Ready), (Granted(1), Free)),
@@ -141,21 +258,8 @@ static FROM_THE_ADOPTION: [Scene; 16] = [
     ((1, 1, Finish), (Done, Done, Ready), (Free, Free)),
 ];
 
-#[test]
-fn a_waiter_is_adopted(rt: HostRuntime) -> Result<(), Fail> {
-    check(
-        &rt,
-        rt.alloc(),
-        &ONE,
-        2,
-        4,
-        [&UP_TO_THE_WAIT, &FROM_THE_ADOPTION],
-        &[],
-    )
-}
-
 /// Thread 1 is granted the lock, and worker 1 runs its section.
-static FROM_THE_GRANT: [Scene; 8] = [
+const FROM_THE_GRANT: [Scene; 8] = [
     ((0, 0, Turn(6)), (At(0), Waiting(0), Ready), (With(0), Free)),
     ((0, 0, Commit), (At(0), Waiting(0), Ready), (Loose(0), Free)),
     ((0, 1, Grant(0)), (At(0), Ready, Ready), (Granted(1), Free)),
@@ -166,21 +270,8 @@ static FROM_THE_GRANT: [Scene; 8] = [
     ((1, 1, SetFree(0)), (At(0), At(1), Ready), (Free, Free)),
 ];
 
-#[test]
-fn a_waiter_is_granted_the_lock(rt: HostRuntime) -> Result<(), Fail> {
-    check(
-        &rt,
-        rt.alloc(),
-        &ONE,
-        2,
-        0,
-        [&UP_TO_THE_WAIT, &FROM_THE_GRANT],
-        &[],
-    )
-}
-
 /// Thread 0 sleeps with its lock, and worker 1 runs the rest of its section.
-static FROM_THE_SLEEP: [Scene; 7] = [
+const FROM_THE_SLEEP: [Scene; 7] = [
     ((0, 0, Turn(3)), (At(0), Waiting(0), Ready), (With(0), Free)),
     ((0, 0, Commit), (At(0), Waiting(0), Ready), (With(0), Free)),
     ((0, 0, Park), (Parked, Waiting(0), Ready), (With(0), Free)),
@@ -189,19 +280,6 @@ static FROM_THE_SLEEP: [Scene; 7] = [
     ((1, 0, Commit), (At(1), Waiting(0), Ready), (Loose(1), Free)),
     ((1, 1, Adopt(0)), (At(1), At(1), Ready), (Granted(1), Free)),
 ];
-
-#[test]
-fn a_thread_sleeps_with_its_lock(rt: HostRuntime) -> Result<(), Fail> {
-    check(
-        &rt,
-        rt.alloc(),
-        &DOZE,
-        2,
-        4,
-        [&UP_TO_THE_WAIT, &FROM_THE_SLEEP],
-        &[],
-    )
-}
 
 /// Thread 0 takes lock 1 and thread 1 takes lock 0, each at its worker. Thread 2 waits for lock 0.
 static UP_TO_THE_NEST: [Scene; 17] = [
@@ -283,242 +361,166 @@ fn was_released_by(core: &Core, lock: u32, held: Held) -> bool {
     }
 }
 
-#[test]
-fn a_waiter_is_shipped_with_the_lock_that_it_holds(rt: HostRuntime) -> Result<(), Fail> {
-    let image = image_of(rt.alloc(), &NEST)?;
-    let mut core = Core::new(rt.alloc(), &image, 100, 3, 4)?;
-    walk(&rt, &mut core, &image, &UP_TO_THE_NEST);
-    walk(&rt, &mut core, &image, &THROUGH_THE_NEST);
-    // Lock 1 was last released by the block that had both, lock 0 by the one that had it alone.
-    assert!(rt; was_released_by(&core, 1, Held::none().plus(0).plus(1)));
-    assert!(rt; was_released_by(&core, 0, Held::none().plus(0)));
+/// Lock 1 is last released by the block that has both, lock 0 by the one that has it alone.
+fn go_through_the_nest<R: Abort>(rt: &R, alloc: Global, image: &Image) -> Result<(), AllocError> {
+    let first = Held::none().plus(0);
+    let mut core = Core::new(alloc, image, 100, 3, 4)?;
+    walk(rt, &mut core, image, "up to the nest", &UP_TO_THE_NEST);
+    walk(rt, &mut core, image, "through the nest", &THROUGH_THE_NEST);
+    assert!(rt; was_released_by(&core, 1, first.plus(1)) && was_released_by(&core, 0, first));
     Ok(())
 }
 
-/// Passes the lock on: by Adopt, or by Grant.
-fn pass(adopted: bool, lock: u32) -> Deed {
-    if adopted { Adopt(lock) } else { Grant(lock) }
-}
-
-/// Up to the event in which thread 0 enters the queue of lock 1.
-static TO_THE_ENTRY: [Try; 21] = [
-    // No such worker, no such thread; at no worker.
-    ((3, 0, Claim), false),
-    ((0, 3, Claim), false),
-    ((0, 0, Turn(1)), false),
-    ((0, 0, Claim), true),
-    // At a worker; at another one; the block goes on; no lock is next; it runs; no sleep.
-    ((1, 0, Claim), false),
-    ((1, 0, Turn(1)), false),
-    ((1, 0, Back), false),
-    ((0, 0, Commit), false),
-    ((0, 0, Enter(1)), false),
-    ((0, 0, Finish), false),
-    ((0, 0, Park), false),
-    ((0, 0, Turn(1)), true),
-    // Inside a block; then it has ended, and the next one takes lock 1.
-    ((0, 0, Back), false),
-    ((0, 0, Turn(1)), true),
-    ((1, 0, Commit), false),
-    ((0, 0, Enter(1)), false),
-    ((0, 0, Commit), true),
-    // Not granted; at another worker; another lock.
-    ((0, 0, Turn(1)), false),
-    ((1, 0, Enter(1)), false),
-    ((0, 0, Enter(0)), false),
-    ((0, 0, Enter(1)), true),
-];
-
-/// Up to the event in which thread 0 releases lock 1, while threads 1 and 2 are in its queue.
-static TO_THE_LINE: [Try; 22] = [
-    // In the line, and the lock is free; first in it; at another worker.
-    ((0, 0, Enter(1)), false),
-    ((0, 0, Back), false),
-    ((0, 0, Ship(1)), false),
-    ((1, 0, Take(1)), false),
-    ((1, 1, Claim), true),
-    ((1, 1, Turn(2)), true),
-    ((1, 1, Commit), true),
-    // Not in the line; then not the first; at another worker.
-    ((1, 1, Ship(1)), false),
-    ((1, 1, Enter(1)), true),
-    ((1, 1, Take(1)), false),
-    ((0, 1, Ship(1)), false),
-    ((0, 0, Take(1)), true),
-    // Not free; in the queue of a lock that was granted to another.
-    ((0, 0, Take(1)), false),
-    ((1, 1, Back), false),
-    ((0, 0, Turn(4)), true),
-    // The block has ended.
-    ((0, 0, Turn(1)), false),
-    ((0, 0, Commit), true),
-    ((2, 2, Claim), true),
-    ((2, 2, Turn(2)), true),
-    ((2, 2, Commit), true),
-    ((2, 2, Enter(1)), true),
-    ((2, 2, Ship(1)), true),
-];
-
-/// Lock 1 goes to thread 1, and thread 0 leaves lock 0.
-fn to_the_leave(adopted: bool) -> [Try; 18] {
-    let own = pass(adopted, 1);
-    let other = pass(!adopted, 1);
-    [
-        // The second of the line does not wait yet.
-        ((0, 1, own), false),
-        ((1, 1, Ship(1)), true),
-        // At another worker; not the second; the batch rule; the line has three; not left.
-        ((1, 1, own), false),
-        ((0, 2, own), false),
-        ((0, 1, other), false),
-        ((0, 0, Leave(1)), false),
-        ((0, 0, SetFree(1)), false),
-        ((0, 1, own), true),
-        // At the worker where it was adopted; at none where it was granted the lock.
-        ((0, 1, Back), adopted),
-        ((0, 0, Turn(4)), true),
-        ((0, 0, Commit), true),
-        ((0, 0, Enter(0)), true),
-        ((0, 0, Take(0)), true),
-        ((0, 0, Turn(4)), true),
-        // With its thread still; then at another worker.
-        ((0, 0, Leave(0)), false),
-        ((0, 0, Commit), true),
-        ((1, 1, Leave(0)), false),
-        ((0, 0, Leave(0)), true),
-    ]
-}
-
-/// Lock 1 goes on to thread 2, which waits for lock 0 behind thread 1.
-fn to_the_second_line(adopted: bool) -> [Try; 18] {
-    let own = pass(adopted, 1);
-    [
-        ((1, 1, Claim), true),
-        ((1, 1, Turn(4)), true),
-        ((1, 1, Commit), true),
-        ((1, 1, Turn(4)), true),
-        ((1, 1, Commit), true),
-        ((1, 1, Enter(0)), true),
-        // The first in the queue of a lock that was left and is not free: it was not granted.
-        ((1, 1, Back), false),
-        // Left already, and the line has one again; at another worker.
-        ((0, 0, Leave(0)), false),
-        ((1, 1, SetFree(0)), false),
-        ((1, 2, own), true),
-        ((1, 2, Back), adopted),
-        ((2, 2, Claim), true),
-        ((2, 2, Turn(4)), true),
-        ((2, 2, Commit), true),
-        ((2, 2, Turn(4)), true),
-        ((2, 2, Commit), true),
-        ((2, 2, Enter(0)), true),
-        ((2, 2, Ship(0)), true),
-    ]
-}
-
-/// Thread 0 ends.
-fn to_the_end(adopted: bool) -> [Try; 9] {
-    [
-        // Left, though the second waits.
-        ((0, 2, pass(adopted, 0)), false),
-        ((0, 0, Turn(2)), true),
-        // The last block is not committed; then the thread has ended; at another worker; done.
-        ((0, 0, Finish), false),
-        ((0, 0, Commit), true),
-        ((0, 0, Turn(1)), false),
-        ((0, 0, Back), false),
-        ((1, 0, Finish), false),
-        ((0, 0, Finish), true),
-        ((0, 0, Claim), false),
-    ]
-}
-
-/// All these tries, where a waiter is adopted, or else is granted the lock.
-fn check_conditions<R: Abort>(
-    rt: &R,
-    alloc: Global,
-    image: &Image,
-    limit: u32,
-    adopted: bool,
-) -> Result<(), AllocError>
-    requires { limit ≤ MAX_BATCH }
-{
-    let mut core = Core::new(alloc, image, 100, 3, limit)?;
-    try_all(rt, &mut core, image, &TO_THE_ENTRY);
-    try_all(rt, &mut core, image, &TO_THE_LINE);
-    try_all(rt, &mut core, image, &to_the_leave(adopted));
-    try_all(rt, &mut core, image, &to_the_second_line(adopted));
-    try_all(rt, &mut core, image, &to_the_end(adopted));
+#[test]
+fn a_waiter_is_shipped_with_the_lock_that_it_holds(rt: HostRuntime) -> Result<(), Fail> {
+    let image = image_of(rt.alloc(), &NEST)?;
+    go_through_the_nest(&rt, rt.alloc(), &image)?;
     Ok(())
 }
 
 /// Each event is tried where just one of its conditions fails. A condition that never fails alone
 /// has no row: a number out of range is at no worker and in no line, and a LOCK within a block ends
-/// the block before it. That a thread which enters a line runs fails alone in the next test.
-#[test]
-fn each_condition_counts(rt: HostRuntime) -> Result<(), Fail> {
-    // Each thread takes lock 1 and gives it back, and then lock 0.
-    let mut words = NEST;
-    words[47] = 0x00100000;
-    words[49] = 0x00100000;
-    words[61] = 0x00000013;
-    words[62] = 0x00000013;
-    let image = image_of(rt.alloc(), &words)?;
-    check_conditions(&rt, rt.alloc(), &image, 4, true)?;
-    check_conditions(&rt, rt.alloc(), &image, 0, false)?;
-    Ok(())
-}
+/// the block before it. That a thread which enters a line runs fails alone in `TO_THE_FAULT`.
+const CONDITIONS: [Try; 88] = [
+    // Up to the event in which thread 0 enters the queue of lock 1.
+    // No such worker, no such thread; at no worker.
+    ((3, 0, Claim), NO),
+    ((0, 3, Claim), NO),
+    ((0, 0, Turn(1)), NO),
+    ((0, 0, Claim), YES),
+    // At a worker; at another one; the block goes on; no lock is next; it runs; no sleep.
+    ((1, 0, Claim), NO),
+    ((1, 0, Turn(1)), NO),
+    ((1, 0, Back), NO),
+    ((0, 0, Commit), NO),
+    ((0, 0, Enter(1)), NO),
+    ((0, 0, Finish), NO),
+    ((0, 0, Park), NO),
+    ((0, 0, Turn(1)), YES),
+    // Inside a block; then it has ended, and the next one takes lock 1.
+    ((0, 0, Back), NO),
+    ((0, 0, Turn(1)), YES),
+    ((1, 0, Commit), NO),
+    ((0, 0, Enter(1)), NO),
+    ((0, 0, Commit), YES),
+    // Not granted; at another worker; another lock.
+    ((0, 0, Turn(1)), NO),
+    ((1, 0, Enter(1)), NO),
+    ((0, 0, Enter(0)), NO),
+    ((0, 0, Enter(1)), YES),
+    // Up to the event in which thread 0 releases lock 1, while threads 1 and 2 are in its queue.
+    // In the line, and the lock is free; first in it; at another worker.
+    ((0, 0, Enter(1)), NO),
+    ((0, 0, Back), NO),
+    ((0, 0, Ship(1)), NO),
+    ((1, 0, Take(1)), NO),
+    ((1, 1, Claim), YES),
+    ((1, 1, Turn(2)), YES),
+    ((1, 1, Commit), YES),
+    // Not in the line; then not the first; at another worker.
+    ((1, 1, Ship(1)), NO),
+    ((1, 1, Enter(1)), YES),
+    ((1, 1, Take(1)), NO),
+    ((0, 1, Ship(1)), NO),
+    ((0, 0, Take(1)), YES),
+    // Not free; in the queue of a lock that was granted to another.
+    ((0, 0, Take(1)), NO),
+    ((1, 1, Back), NO),
+    ((0, 0, Turn(4)), YES),
+    // The block has ended.
+    ((0, 0, Turn(1)), NO),
+    ((0, 0, Commit), YES),
+    ((2, 2, Claim), YES),
+    ((2, 2, Turn(2)), YES),
+    ((2, 2, Commit), YES),
+    ((2, 2, Enter(1)), YES),
+    ((2, 2, Ship(1)), YES),
+    // Lock 1 goes to thread 1, and thread 0 leaves lock 0.
+    // The second of the line does not wait yet.
+    ((0, 1, Adopt(1)), NO),
+    ((1, 1, Ship(1)), YES),
+    // At another worker; not the second; the batch rule; the line has three; not left.
+    ((1, 1, Adopt(1)), NO),
+    ((0, 2, Adopt(1)), NO),
+    ((0, 1, Grant(1)), NO),
+    ((0, 0, Leave(1)), NO),
+    ((0, 0, SetFree(1)), NO),
+    ((0, 1, Adopt(1)), YES),
+    // At the worker where it was adopted; at none where it was granted the lock.
+    ((0, 1, Back), ADOPTED),
+    ((0, 0, Turn(4)), YES),
+    ((0, 0, Commit), YES),
+    ((0, 0, Enter(0)), YES),
+    ((0, 0, Take(0)), YES),
+    ((0, 0, Turn(4)), YES),
+    // With its thread still; then at another worker.
+    ((0, 0, Leave(0)), NO),
+    ((0, 0, Commit), YES),
+    ((1, 1, Leave(0)), NO),
+    ((0, 0, Leave(0)), YES),
+    // Lock 1 goes on to thread 2, which waits for lock 0 behind thread 1.
+    ((1, 1, Claim), YES),
+    ((1, 1, Turn(4)), YES),
+    ((1, 1, Commit), YES),
+    ((1, 1, Turn(4)), YES),
+    ((1, 1, Commit), YES),
+    ((1, 1, Enter(0)), YES),
+    // The first in the queue of a lock that was left and is not free: it was not granted.
+    ((1, 1, Back), NO),
+    // Left already, and the line has one again; at another worker.
+    ((0, 0, Leave(0)), NO),
+    ((1, 1, SetFree(0)), NO),
+    ((1, 2, Adopt(1)), YES),
+    ((1, 2, Back), ADOPTED),
+    ((2, 2, Claim), YES),
+    ((2, 2, Turn(4)), YES),
+    ((2, 2, Commit), YES),
+    ((2, 2, Turn(4)), YES),
+    ((2, 2, Commit), YES),
+    ((2, 2, Enter(0)), YES),
+    ((2, 2, Ship(0)), YES),
+    // Thread 0 ends.
+    // Left, though the second waits.
+    ((0, 2, Adopt(0)), NO),
+    ((0, 0, Turn(2)), YES),
+    // The last block is not committed; then the thread has ended; at another worker; done.
+    ((0, 0, Finish), NO),
+    ((0, 0, Commit), YES),
+    ((0, 0, Turn(1)), NO),
+    ((0, 0, Back), NO),
+    ((1, 0, Finish), NO),
+    ((0, 0, Finish), YES),
+    ((0, 0, Claim), NO),
+];
 
 /// Thread 2 ends in a fault at a LOCK of lock 0, with lock 1.
-static TO_THE_FAULT: [Try; 13] = [
-    ((0, 2, Claim), true),
-    ((0, 2, Turn(2)), true),
-    ((0, 2, Commit), true),
-    ((0, 2, Enter(1)), true),
-    ((0, 2, Take(1)), true),
+const TO_THE_FAULT: [Try; 13] = [
+    ((0, 2, Claim), YES),
+    ((0, 2, Turn(2)), YES),
+    ((0, 2, Commit), YES),
+    ((0, 2, Enter(1)), YES),
+    ((0, 2, Take(1)), YES),
     // LOCK 1 and three turns more: the last is a fault.
-    ((0, 2, Turn(4)), true),
-    ((0, 2, Commit), true),
+    ((0, 2, Turn(4)), YES),
+    ((0, 2, Commit), YES),
     // It holds nothing now, and its pc is at a LOCK of lock 0.
-    ((0, 2, Turn(1)), false),
-    ((0, 2, Enter(0)), false),
-    ((0, 2, Back), false),
-    ((0, 0, Leave(1)), true),
-    ((0, 0, SetFree(1)), true),
-    ((0, 2, Finish), true),
+    ((0, 2, Turn(1)), NO),
+    ((0, 2, Enter(0)), NO),
+    ((0, 2, Back), NO),
+    ((0, 0, Leave(1)), YES),
+    ((0, 0, SetFree(1)), YES),
+    ((0, 2, Finish), YES),
 ];
-
-#[test]
-fn a_thread_that_ended_at_a_lock_enters_no_line(rt: HostRuntime) -> Result<(), Fail> {
-    // Thread 2 takes lock 1, and then wants lock 0, which is out of order.
-    let mut words = NEST;
-    words[71] = 0x00100513;
-    words[74] = 0x00000513;
-    check(&rt, rt.alloc(), &words, 3, 4, [&[], &[]], &TO_THE_FAULT)
-}
 
 /// Thread 0 sleeps, and then releases its lock.
-static AROUND_THE_SLEEP: [Try; 8] = [
-    ((0, 0, Turn(3)), true),
-    ((0, 0, Commit), true),
+const AROUND_THE_SLEEP: [Try; 8] = [
+    ((0, 0, Turn(3)), YES),
+    ((0, 0, Commit), YES),
     // At another worker; inside a block; after an UNLOCK.
-    ((1, 0, Park), false),
-    ((0, 0, Turn(1)), true),
-    ((0, 0, Park), false),
-    ((0, 0, Turn(2)), true),
-    ((0, 0, Commit), true),
-    ((0, 0, Park), false),
+    ((1, 0, Park), NO),
+    ((0, 0, Turn(1)), YES),
+    ((0, 0, Park), NO),
+    ((0, 0, Turn(2)), YES),
+    ((0, 0, Commit), YES),
+    ((0, 0, Park), NO),
 ];
-
-#[test]
-fn only_a_thread_that_has_slept_is_parked(rt: HostRuntime) -> Result<(), Fail> {
-    check(
-        &rt,
-        rt.alloc(),
-        &DOZE,
-        2,
-        4,
-        [&UP_TO_THE_WAIT, &[]],
-        &AROUND_THE_SLEEP,
-    )
-}

@@ -5,9 +5,7 @@ use std::alloc::{AllocError, Global};
 use std::process::Abort;
 use std::test::Fail;
 use tc_elf::image::Image;
-use tc_elf::limits::MAX_FILE;
 use tc_elf::load::load;
-use tc_elf::refusal::Refusal;
 use tc_isa::held::Held;
 use tc_isa::reg::Reg;
 use tc_journal::block::{Block, BlockV1, End, Kind};
@@ -16,7 +14,7 @@ use tc_mutex_spec::slow::{Slow, SlowStatus};
 use tc_mutex_spec::upgrade::upgrade;
 
 /// A guest's file of one segment at the address 0x00010054: `addi x17,x0,93` and `ecall`.
-const SMALLEST: [u8; 92] = [
+static SMALLEST: [u8; 92] = [
     0x7f, 0x45, 0x4c, 0x46, 0x01, 0x01, 0x01, 0x00, 0x00, 0x00, 0x00, 0x00, 0x00, 0x00, 0x00, 0x00,
     0x02, 0x00, 0xf3, 0x00, 0x01, 0x00, 0x00, 0x00, 0x54, 0x00, 0x01, 0x00, 0x34, 0x00, 0x00, 0x00,
     0x00, 0x00, 0x00, 0x00, 0x00, 0x00, 0x00, 0x00, 0x34, 0x00, 0x20, 0x00, 0x01, 0x00, 0x00, 0x00,
@@ -35,35 +33,23 @@ fn is_at(slow: &Slow, status: SlowStatus, left: u32, pc: u32) -> bool
         && slow.held(0) == Held::none()
 }
 
-/// The smallest guest with so much fuel has this status, fuel and pc after so many turns.
-fn check_smallest<R: Abort>(
-    rt: &R,
-    alloc: Global,
-    image: &Image,
-    fuel: u32,
-    turns: u32,
-    want: (SlowStatus, u32, u32),
-) -> Result<(), Fail> {
+/// Fuel and turns, and then the status, the fuel and the pc of the smallest guest.
+type Run = (u32, u32, SlowStatus, u32, u32);
+
+static RUNS: [Run; 4] = [
+    (100, 0, SlowStatus::Running, 100, 0x10054),
+    (100, 1, SlowStatus::Running, 99, 0x10058),
+    (100, 2, SlowStatus::Exited, 98, 0x10058),
+    (1, 2, SlowStatus::SpentFuel, 0, 0x10058),
+];
+
+fn check_run<R: Abort>(rt: &R, alloc: Global, image: &Image, row: Run) -> Result<(), AllocError> {
+    let (fuel, turns, status, left, pc) = row;
     assert!(rt; image.threads() == 1);
     let Some(slow) = Slow::run(alloc, image, fuel, &[(0, 0), (0, turns)])? else {
         panic!(rt; "{turns} turns are defined")
     };
-    let (status, left, pc) = want;
     assert!(rt; is_at(&slow, status, left, pc), "after {turns} turns");
-    Ok(())
-}
-
-#[test]
-fn runs_the_smallest_guest(rt: HostRuntime) -> Result<(), Fail> {
-    let image = load(rt.alloc(), &SMALLEST)?;
-    for (fuel, turns, want) in [
-        (100, 0, (SlowStatus::Running, 100, 0x10054)),
-        (100, 1, (SlowStatus::Running, 99, 0x10058)),
-        (100, 2, (SlowStatus::Exited, 98, 0x10058)),
-        (1, 2, (SlowStatus::SpentFuel, 0, 0x10058)),
-    ] {
-        check_smallest(&rt, rt.alloc(), &image, fuel, turns, want)?;
-    }
     Ok(())
 }
 
@@ -72,30 +58,53 @@ fn is_defined(alloc: Global, image: &Image, schedule: &[(u32, u32)]) -> Result<b
     Ok(Slow::run(alloc, image, 100, schedule)?.is_some())
 }
 
-#[test]
-fn a_turn_of_no_running_thread_is_undefined(rt: HostRuntime) -> Result<(), Fail> {
-    let image = load(rt.alloc(), &SMALLEST)?;
-    for schedule in [[(0, 2), (0, 1)], [(0, 3), (0, 0)], [(0, 1), (1, 1)]] {
-        assert!(rt; !is_defined(rt.alloc(), &image, &schedule)?);
+/// Each has a turn of no thread, or of one that has ended.
+static UNDEFINED: [[(u32, u32); 2]; 3] = [[(0, 2), (0, 1)], [(0, 3), (0, 0)], [(0, 1), (1, 1)]];
+
+fn check_undefined<R: Abort>(rt: &R, alloc: Global, image: &Image) -> Result<(), AllocError> {
+    for schedule in &UNDEFINED {
+        assert!(rt; !is_defined(alloc, image, schedule)?);
     }
     Ok(())
 }
 
+fn check_runs<R: Abort>(rt: &R, alloc: Global, image: &Image) -> Result<(), AllocError> {
+    for row in &RUNS {
+        check_run(rt, alloc, image, *row)?;
+    }
+    Ok(())
+}
+
+#[test]
+fn runs_the_smallest_guest(rt: HostRuntime) -> Result<(), Fail> {
+    let image = load(rt.alloc(), &SMALLEST)?;
+    check_runs(&rt, rt.alloc(), &image)?;
+    check_undefined(&rt, rt.alloc(), &image)?;
+    check_old_texts(&rt, rt.alloc(), &image)
+}
+
 /// The guest of two threads after these turns. All of them are defined.
-fn after<R: Abort>(rt: &R, alloc: Global, fuel: u32, schedule: &[(u32, u32)]) -> Result<Slow, Fail>
+fn after<R: Abort>(
+    rt: &R,
+    alloc: Global,
+    image: &Image,
+    fuel: u32,
+    schedule: &[(u32, u32)],
+) -> Result<Slow, AllocError>
     ensures threads { IfOk result (λ slow. length slow.threads ≡ 2) }
     ensures locks { IfOk result (λ slow. length slow.locks ≡ 1) }
 {
-    let image = image_of(alloc, &ONE)?;
     assert!(rt; image.threads() == 2 && image.guards() == 1);
-    let Some(slow) = Slow::run(alloc, &image, fuel, schedule)? else {
+    let Some(slow) = Slow::run(alloc, image, fuel, schedule)? else {
         panic!(rt; "each turn is defined")
     };
     Ok(slow)
 }
 
+static IN_TURN: [(u32, u32); 6] = [(0, 3), (0, 7), (1, 3), (1, 7), (0, 2), (1, 2)];
+
 /// Both threads have ended their sections.
-fn check_sections<R: Abort>(rt: &R, slow: &Slow)
+fn see_sections<R: Abort>(rt: &R, slow: &Slow)
     requires threads { length slow.now.threads ≡ 2 }
     requires locks { length slow.now.locks ≡ 1 }
 {
@@ -105,46 +114,50 @@ fn check_sections<R: Abort>(rt: &R, slow: &Slow)
     assert!(rt; slow.status(1) == SlowStatus::Exited && slow.fuel(1) == 88);
 }
 
-#[test]
-fn two_threads_take_one_lock_in_turn(rt: HostRuntime) -> Result<(), Fail> {
-    let schedule = [(0, 3), (0, 7), (1, 3), (1, 7), (0, 2), (1, 2)];
-    let slow = after(&rt, rt.alloc(), 100, &schedule)?;
-    check_sections(&rt, &slow);
+/// Two threads take one lock in turn.
+fn check_sections<R: Abort>(rt: &R, alloc: Global, image: &Image) -> Result<(), AllocError> {
+    let slow = after(rt, alloc, image, 100, &IN_TURN)?;
+    see_sections(rt, &slow);
     Ok(())
 }
 
-#[test]
-fn a_lock_has_one_owner(rt: HostRuntime) -> Result<(), Fail> {
-    let slow = after(&rt, rt.alloc(), 100, &[(0, 9), (1, 3)])?;
+/// A lock has one owner. The fourth turn of thread 1 is its LOCK, and is undefined while another one
+/// owns the lock.
+fn check_owner<R: Abort>(rt: &R, alloc: Global, image: &Image) -> Result<(), AllocError> {
+    assert!(rt; !is_defined(alloc, image, &[(0, 9), (1, 4)])?);
+    let slow = after(rt, alloc, image, 100, &[(0, 9), (1, 3)])?;
     assert!(rt; slow.owner(0) == Some(0));
     assert!(rt; slow.held(0).has(0) && !slow.held(1).has(0));
     Ok(())
 }
 
-/// The fourth turn of thread 1 is its LOCK, and another one owns the lock.
-#[test]
-fn a_turn_that_takes_an_owned_lock_is_undefined(rt: HostRuntime) -> Result<(), Fail> {
-    let image = image_of(rt.alloc(), &ONE)?;
-    assert!(rt; !is_defined(rt.alloc(), &image, &[(0, 9), (1, 4)])?);
-    Ok(())
-}
-
 /// The first thread has ended inside its section, and the second one has taken the lock.
-fn check_broken<R: Abort>(rt: &R, slow: &Slow)
+fn see_broken<R: Abort>(rt: &R, slow: &Slow)
     requires threads { length slow.now.threads ≡ 2 }
     requires locks { length slow.now.locks ≡ 1 }
 {
     assert!(rt; slow.status(0) == SlowStatus::SpentFuel);
-    assert!(rt; slow.regs(0).pc() == 0x0010_0024);
-    assert!(rt; slow.broken(0) && slow.bytes(0) == [1, 0, 0, 0].as_slice());
     // The next one to take it is told.
-    assert!(rt; slow.regs(1).get(Reg::of(10)) == 1 && slow.owner(0) == Some(1));
+    let words = [slow.regs(0).pc(), slow.regs(1).get(Reg::of(10))];
+    assert!(rt; words == [0x0010_0024, 1]);
+    assert!(rt; slow.broken(0) && slow.owner(0) == Some(1));
+    assert!(rt; slow.bytes(0) == [1, 0, 0, 0].as_slice());
+}
+
+/// A lock is broken by a thread that ends inside.
+fn check_broken<R: Abort>(rt: &R, alloc: Global, image: &Image) -> Result<(), AllocError> {
+    let slow = after(rt, alloc, image, 9, &[(0, 10), (1, 4)])?;
+    see_broken(rt, &slow);
+    Ok(())
 }
 
 #[test]
-fn a_lock_is_broken_by_a_thread_that_ends_inside(rt: HostRuntime) -> Result<(), Fail> {
-    let slow = after(&rt, rt.alloc(), 9, &[(0, 10), (1, 4)])?;
-    check_broken(&rt, &slow);
+fn two_threads_share_a_lock(rt: HostRuntime) -> Result<(), Fail> {
+    let image = image_of(rt.alloc(), &ONE)?;
+    check_sections(&rt, rt.alloc(), &image)?;
+    check_owner(&rt, rt.alloc(), &image)?;
+    check_broken(&rt, rt.alloc(), &image)?;
+    check_pcs(&rt, rt.alloc(), &image)?;
     Ok(())
 }
 
@@ -177,9 +190,7 @@ fn upgraded<R: Abort>(
 }
 
 /// An old text is read, and its block gets the pc; if the run is undefined, there is none.
-#[test]
-fn an_old_text_gets_its_pcs(rt: HostRuntime) -> Result<(), Fail> {
-    let image = load(rt.alloc(), &SMALLEST)?;
+fn check_old_texts<R: Abort>(rt: &R, alloc: Global, image: &Image) -> Result<(), Fail> {
     let line = "block 0 thread 0 turns 2 held - kind start worker 0 end exit\n";
     let want = Block {
         stamp: 0,
@@ -191,20 +202,15 @@ fn an_old_text_gets_its_pcs(rt: HostRuntime) -> Result<(), Fail> {
         pc: 0x0001_0054,
         end: End::Exit,
     };
-    assert!(rt; upgraded(&rt, rt.alloc(), &image, line)? == Some(want));
+    assert!(rt; upgraded(rt, alloc, image, line)? == Some(want));
     let line = "block 0 thread 0 turns 3 held - kind start worker 0 end exit\n";
-    assert!(rt; upgraded(&rt, rt.alloc(), &image, line)?.is_none());
+    assert!(rt; upgraded(rt, alloc, image, line)?.is_none());
     Ok(())
-}
-
-/// Each block has the pc of its row.
-fn have_pcs(blocks: &[Block], pcs: &[u32]) -> bool {
-    blocks.len() == pcs.len() && blocks.iter().zip(pcs).all(|(block, pc)| block.pc == *pc)
 }
 
 /// Where the blocks of two threads begin that each have one section, one thread after the other but
 /// for their last blocks.
-const PCS: [u32; 6] = [
+static PCS: [u32; 6] = [
     0x0010_0000,
     0x0010_000c,
     0x0010_0000,
@@ -213,10 +219,16 @@ const PCS: [u32; 6] = [
     0x0010_0028,
 ];
 
+/// Each block has the pc of its row.
+fn see_pcs<R: Abort>(rt: &R, blocks: &[Block]) {
+    assert!(rt; blocks.len() == PCS.len());
+    for (block, pc) in blocks.iter().zip(&PCS) {
+        assert!(rt; block.pc == *pc);
+    }
+}
+
 /// The blocks of two threads that each have one section get their pcs.
-#[test]
-fn old_blocks_of_two_threads_get_their_pcs(rt: HostRuntime) -> Result<(), Fail> {
-    let image = image_of(rt.alloc(), &ONE)?;
+fn check_pcs<R: Abort>(rt: &R, alloc: Global, image: &Image) -> Result<(), AllocError> {
     let old = [
         old_block(0, 3),
         old_block(0, 7),
@@ -225,9 +237,9 @@ fn old_blocks_of_two_threads_get_their_pcs(rt: HostRuntime) -> Result<(), Fail> 
         old_block(0, 2),
         old_block(1, 2),
     ];
-    let Some(blocks) = upgrade(rt.alloc(), &image, 100, &old)? else {
-        panic!(rt; "the run is defined")
-    };
-    assert!(rt; have_pcs(&blocks, &PCS));
+    match upgrade(alloc, image, 100, &old)? {
+        Some(blocks) => see_pcs(rt, &blocks),
+        None => panic!(rt; "the run is defined"),
+    }
     Ok(())
 }

@@ -12,8 +12,6 @@
 
 mod law;
 mod next;
-#[cfg(test)]
-mod tests;
 
 pub use law::allowed;
 pub use next::{Next, first_release, plan};

@@ -18,6 +18,3 @@ mod seats;
 
 pub use maker::{ByEntry, Made, QueueMaker};
 pub use seats::{NotedSeat, Seats};
-
-#[cfg(test)]
-mod tests;

@@ -4,9 +4,10 @@
 //!
 //! `ran` runs the program over files in memory. `usher` is an observer that holds workers until
 //! others have come so far; `committed` compares its reports with the blocks that were printed.
-//! `gates` tests workers with FIFO queues, `nodes` those on NUMA nodes, `starved` runs out of
-//! memory, `made` checks the file of the generator's guest, and `results` the report of the values
-//! that a whole run leaves, and the numbers of the statuses.
+//! `gates` tests workers with FIFO queues, `nodes` those on NUMA nodes, `youngest` those with the
+//! waiters of tc_youngest, `starved` runs out of memory, `made` checks the file of the generator's
+//! guest, and `results` the report of the values that a whole run leaves, and the numbers of the
+//! statuses.
 #![tactic(auto)]
 
 #[cfg(test)]
@@ -25,3 +26,5 @@ mod results;
 mod starved;
 #[cfg(test)]
 mod usher;
+#[cfg(test)]
+mod youngest;

@@ -65,16 +65,12 @@ fn has_counted(package: &Package) -> bool {
 /// Checks what holds at the end of every run of two threads of COUNT, and that the workers
 /// committed its blocks.
 fn check_count<R: Abort>(rt: &R, closed: &Closed, committed: u32) {
-    assert!(rt; closed.packages().len() == 2);
-    for package in closed.packages() {
-        assert!(rt; has_counted(package));
-    }
-    assert!(rt; committed == 402);
-    assert!(rt; closed.locks().len() == 1);
-    for lock in closed.locks() {
-        assert!(rt; lock.sections() == 200 && !lock.broken());
-        assert!(rt; lock.bytes() == [0xc8, 0, 0, 0].as_slice());
-    }
+    let packages = closed.packages();
+    assert!(rt; committed == 402 && packages.len() == 2 && closed.locks().len() == 1);
+    assert!(rt; has_counted(&packages[0]) && has_counted(&packages[1]));
+    let lock = &closed.locks()[0];
+    assert!(rt; lock.sections() == 200 && !lock.broken());
+    assert!(rt; lock.bytes() == [0xc8, 0, 0, 0].as_slice());
 }
 
 /// Runs two threads of COUNT by so many workers.
@@ -102,13 +98,8 @@ fn count<R: Abort + Threads + Wait + Sync>(
 }
 
 #[test]
-fn a_worker_alone_finishes(rt: HostRuntime) -> Result<(), Fail> {
-    count(&rt, rt.alloc(), 1, 8)
-}
-
-#[test]
-fn workers_beside_one_another_finish(rt: HostRuntime) -> Result<(), Fail> {
-    for workers in 2..9 {
+fn workers_finish_alone_and_beside_one_another(rt: HostRuntime) -> Result<(), Fail> {
+    for workers in 1..9 {
         count(&rt, rt.alloc(), workers, 8)?;
     }
     for limit in 0..5 {
@@ -128,10 +119,9 @@ fn a_long_sleep_ends(rt: HostRuntime) -> Result<(), Fail> {
         limit: 0,
     };
     let closed = closed_of(&rt, rt.alloc(), &file, options, &Open)?;
-    assert!(rt; closed.packages().len() == 2);
-    for package in closed.packages() {
-        assert!(rt; package.status() == Status::Exited);
-    }
+    let packages = closed.packages();
+    assert!(rt; packages.len() == 2);
+    assert!(rt; packages[0].status() == Status::Exited && packages[1].status() == Status::Exited);
     Ok(())
 }
 

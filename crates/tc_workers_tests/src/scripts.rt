@@ -3,12 +3,12 @@
 //! these bytes in its guard, and broken or not; or a thread has it.
 
 ghost use Rattle.std.specs.Prelude.{◌≡◌, ◌<◌, ◌≤◌, None, All, IfOk, OnOk, length, map};
-ghost use Rattle.tc_isa.specs.declared.limits.TheConstants.{MAX_WORKERS};
+ghost use Rattle.tc_isa.specs.declared.limits.TheConstants.{MAX_BATCH, MAX_WORKERS};
 ghost use Rattle.tc_hall.specs.Made.{AreDealt};
 ghost use Rattle.tc_order.specs.Order.{AreInOrder};
 ghost use Rattle.tc_workers.specs.Crew.{AreAtWork, AreLines};
 ghost use Rattle.tc_workers.specs.StepWith.{step_of};
-ghost use Rattle.tc_workers.specs.Worker.{HasSealed, IsStep};
+ghost use Rattle.tc_workers.specs.Worker.{HasSealed, IsAtWork, IsStep, view_of};
 ghost use Rattle.tc_workers_tests.specs.Scripts.{IsAtHall, IsPlaying};
 
 use crate::scripts::Action::{
@@ -112,13 +112,11 @@ fn claim_thread<R: Abort, Q: Order>(
     requires { IsPlaying bench.now player.old.desk player.old.hand player.old.end }
     ensures { IsPlaying bench.now player.new.desk player.new.hand player.new.end }
 {
-    assert!(rt; player.hand.is_none());
-    assert!(rt; player.end.is_none());
+    assert!(rt; player.hand.is_none() && player.end.is_none() && t < bench.image.threads());
     assert!(rt; player.desk.back().is_none());
-    assert!(rt; t < bench.image.threads());
     match try_claim(bench, &Open, &mut player.desk, t, from) {
         Step::On(Some(package)) => player.hand = Some(package),
-        _ => panic!(rt; "thread {t} is not there"),
+        _ => panic!(rt; "the thread is not there"),
     }
 }
 
@@ -224,9 +222,7 @@ fn wake<R: Abort, Q: Order>(rt: &R, bench: &Bench<'_, Q>, player: &mut Player<Q>
     requires { IsPlaying bench.now player.old.desk player.old.hand player.old.end }
     ensures { IsPlaying bench.now player.new.desk player.new.hand player.new.end }
 {
-    assert!(rt; player.hand.is_none());
-    assert!(rt; player.end.is_none());
-    assert!(rt; player.desk.now() < turn);
+    assert!(rt; player.hand.is_none() && player.end.is_none() && player.desk.now() < turn);
     assert!(rt; player.desk.sleepers().least() == Some(turn));
     player.desk.advance(turn);
     assert!(rt; player.desk.sleepers().due(turn) == Some(t));
@@ -239,8 +235,7 @@ fn take_back<R: Abort, Q: Order>(rt: &R, bench: &Bench<'_, Q>, player: &mut Play
     ensures { IsPlaying bench.now player.new.desk player.new.hand player.new.end }
 {
     let _ = bench;
-    assert!(rt; player.hand.is_none());
-    assert!(rt; player.end.is_none());
+    assert!(rt; player.hand.is_none() && player.end.is_none());
     let Some(package) = player.desk.back() else {
         panic!(rt; "no package is set aside")
     };
@@ -259,8 +254,7 @@ fn look_at<R: Abort, Q: Order>(
     requires { IsPlaying bench.now player.old.desk player.old.hand player.old.end }
     ensures { IsPlaying bench.now player.new.desk player.new.hand player.new.end }
 {
-    assert!(rt; player.end.is_none());
-    assert!(rt; t < bench.image.threads());
+    assert!(rt; player.end.is_none() && t < bench.image.threads());
     assert!(rt; bench.hall.look(player.desk.pass(), t) == word);
 }
 
@@ -272,37 +266,62 @@ fn reads(hand: &Option<Package>, register: u32, value: u32) -> bool {
     }
 }
 
-/// Does one action with a desk. A block that it runs is added to the history.
+/// Settles the current package, which sleeps: the least sleeper is due then.
+fn park_until<R: Abort + Wait, Q: Order>(
+    rt: &R,
+    bench: &Bench<'_, Q>,
+    player: &mut Player<Q>,
+    due: u64,
+)
+    requires { IsPlaying bench.now player.old.desk player.old.hand player.old.end }
+    ensures { IsPlaying bench.now player.new.desk player.new.hand player.new.end }
+{
+    settle_as(rt, bench, player, Action::Parks(due));
+    assert!(rt; player.desk.sleepers().least() == Some(due));
+}
+
+/// Checks what an action says of a desk, at which it does nothing else.
+fn check<R: Abort, Q: Order>(
+    rt: &R,
+    bench: &Bench<'_, Q>,
+    player: &mut Player<Q>,
+    action: Action<'_>,
+)
+    requires { IsPlaying bench.now player.old.desk player.old.hand player.old.end }
+    ensures { IsPlaying bench.now player.new.desk player.new.hand player.new.end }
+{
+    match action {
+        Action::Tells(threads) => assert!(rt; player.desk.handed() == threads),
+        Action::Looks(t, word) => look_at(rt, bench, player, t, word),
+        Action::Reads(register, value) => assert!(rt; reads(&player.hand, register, value)),
+        Action::Now(turn) => assert!(rt; player.desk.now() == turn),
+        _ => panic!(rt; "each action is known"),
+    }
+}
+
+/// Does one action with a desk, and gives the block that it ran, if any.
 fn act<R: Abort + Wait, Q: Order>(
     rt: &R,
     bench: &Bench<'_, Q>,
     player: &mut Player<Q>,
-    history: &mut Vec<Block>,
     action: Action<'_>,
-) -> Result<(), AllocError>
+) -> Option<Block>
     requires { IsPlaying bench.now player.old.desk player.old.hand player.old.end }
-    ensures { OnOk result (IsPlaying bench.now player.new.desk player.new.hand player.new.end) }
+    ensures { IsPlaying bench.now player.new.desk player.new.hand player.new.end }
 {
     match action {
+        Action::Run => return Some(run_block(rt, bench, player)),
         Action::Claim(t) => claim_thread(rt, bench, player, t, Origin::Ready),
-        Action::Run => {
-            let block = run_block(rt, bench, player);
-            history.push(block)?;
-        }
         Action::Back(t) => take_back(rt, bench, player, t),
         Action::Wake(turn, t) => wake(rt, bench, player, turn, t),
-        Action::Tells(threads) => assert!(rt; player.desk.handed() == threads),
-        Action::Looks(t, word) => look_at(rt, bench, player, t, word),
-        Action::Parks(turn) => {
-            settle_as(rt, bench, player, action);
-            assert!(rt; player.desk.sleepers().least() == Some(turn));
-        }
-        Action::Reads(register, value) => assert!(rt; reads(&player.hand, register, value)),
-        Action::Now(turn) => assert!(rt; player.desk.now() == turn),
         Action::Takes(_) | Action::Queues => acquire_as(rt, bench, player, action),
-        _ => settle_as(rt, bench, player, action),
+        Action::Parks(due) => park_until(rt, bench, player, due),
+        Action::GoesOn(_) | Action::Adopts(_) | Action::Ships | Action::Ends => {
+            settle_as(rt, bench, player, action);
+        }
+        _ => check(rt, bench, player, action),
     }
-    Ok(())
+    None
 }
 
 /// A desk, and the actions with it, in order.
@@ -326,13 +345,29 @@ pub(crate) struct Script<'a> {
 
 /// The image of a guest, whose guards are zeros at the start.
 fn image_of<R: Abort>(rt: &R, alloc: Global, script: &Script<'_>) -> Result<Image, Fail> {
-    assert!(rt; 1 <= script.entries.len() && script.entries.len() <= MAX_THREADS as usize);
-    assert!(rt; script.guards.len() <= 3);
-    assert!(rt; script.code.len() <= 100);
+    assert!(rt;
+        1 <= script.entries.len()
+            && script.entries.len() <= MAX_THREADS as usize
+            && script.guards.len() <= 3
+            && script.code.len() <= 100
+    );
     let zeros = [0u8; 12];
     let fill = &zeros[..4 * script.guards.len()];
     let file = build(alloc, script.code, script.entries, fill, script.guards)?;
     Ok(load(alloc, &file)?)
+}
+
+/// A player at a worker's desk.
+pub(crate) fn player_of<Q: Order>(bench: &Bench<'_, Q>, worker: Worker<Q>) -> Player<Q>
+    requires { IsAtWork bench.now None (view_of worker) }
+    ensures { IsPlaying bench.now result.desk result.hand result.end }
+{
+    let _ = bench;
+    Player {
+        desk: worker.desk,
+        hand: None,
+        end: None,
+    }
 }
 
 /// Gives each worker's desk to a player; the least number comes first.
@@ -345,15 +380,9 @@ pub(crate) fn players<Q: Order>(
     ensures { IfOk result (λ players. All (λ p. IsPlaying bench.now p.desk p.hand p.end)
         players.items) }
 {
-    let _ = bench;
     let mut players = Vec::with_capacity(alloc, hired.len())?;
     while let Some(worker) = hired.pop() {
-        let Worker { desk, ready: _ } = worker;
-        players.push(Player {
-            desk,
-            hand: None,
-            end: None,
-        })?;
+        players.push(player_of(bench, worker))?;
     }
     Ok(players)
 }
@@ -366,14 +395,11 @@ fn check_history<R: Abort>(
     lines: &str,
 ) -> Result<(), Fail> {
     let told = read(alloc, lines.as_bytes())?;
-    assert!(rt; history.len() == told.len());
-    for (block, told) in history.iter().zip(told.iter()) {
-        assert!(rt; *block == *told, "{told:?}");
-    }
+    assert!(rt; history == told.as_slice());
     Ok(())
 }
 
-/// Does the actions of a row in their order.
+/// Does the actions of a row in their order. The blocks that they run are added to the history.
 fn act_all<R: Abort + Wait, Q: Order>(
     rt: &R,
     bench: &Bench<'_, Q>,
@@ -385,7 +411,9 @@ fn act_all<R: Abort + Wait, Q: Order>(
     ensures { OnOk result (IsPlaying bench.now player.new.desk player.new.hand player.new.end) }
 {
     for action in actions {
-        act(rt, bench, player, history, *action)?;
+        if let Some(block) = act(rt, bench, player, *action) {
+            history.push(block)?;
+        }
     }
     Ok(())
 }
@@ -394,18 +422,17 @@ fn act_all<R: Abort + Wait, Q: Order>(
 pub(crate) fn follow<R: Abort + Wait, Q: Order>(
     rt: &R,
     bench: &Bench<'_, Q>,
-    players: &mut Vec<Player<Q>>,
+    players: &mut [Player<Q>],
     history: &mut Vec<Block>,
     steps: &[Row<'_>],
 ) -> Result<(), AllocError>
-    requires { All (λ p. IsPlaying bench.now p.desk p.hand p.end) players.old.items }
+    requires { All (λ p. IsPlaying bench.now p.desk p.hand p.end) players.old }
     ensures { OnOk result
-        (All (λ p. IsPlaying bench.now p.desk p.hand p.end) players.new.items) }
+        (All (λ p. IsPlaying bench.now p.desk p.hand p.end) players.new) }
 {
-    for step in steps {
-        let (desk, actions) = *step;
-        assert!(rt; desk < players.len());
-        act_all(rt, bench, &mut players[desk], history, actions)?;
+    for (desk, actions) in steps {
+        assert!(rt; *desk < players.len());
+        act_all(rt, bench, &mut players[*desk], history, actions)?;
     }
     Ok(())
 }
@@ -423,11 +450,10 @@ fn check_guards<R: Abort, Q: Order>(
     for lock in 0..bench.image.guards() {
         match (bench.hall.take(pass, lock), script.bytes[lock as usize]) {
             (Ok(state), Some(bytes)) => {
-                assert!(rt; state.bytes() == bytes.as_slice());
-                assert!(rt; state.broken() == script.broken);
+                assert!(rt; state.bytes() == bytes.as_slice() && state.broken() == script.broken);
             }
             (Err(_), None) => {}
-            (_, bytes) => panic!(rt; "lock {lock}: {bytes:?}"),
+            _ => panic!(rt; "lock {lock}"),
         }
     }
 }
@@ -532,6 +558,40 @@ where
     perform(rt, alloc, &bench, script, ending, hired)
 }
 
+/// Plays a script, which ends so, at the lines of a hall.
+fn play_in_hall<R: Abort + Threads + Wait + Sync>(
+    rt: &R,
+    alloc: Global,
+    script: &Script<'_>,
+    ending: Ending<'_>,
+    image: &Image,
+) -> Result<(), Fail>
+    requires desks { (1 ≤ script.now.desks) × (script.now.desks ≤ MAX_WORKERS) }
+    requires limit { script.now.limit ≤ MAX_BATCH }
+{
+    let opened = Hall::with_lines(alloc, image, 100, script.desks, script.limit)?;
+    let lines = line_up_in_hall(alloc, image, script.desks)?;
+    play_at(rt, alloc, script, ending, image, opened, lines)
+}
+
+/// Plays a script, which ends so, at queues apart from the hall.
+fn play_apart<R: Abort + Threads + Wait + Sync>(
+    rt: &R,
+    alloc: Global,
+    script: &Script<'_>,
+    ending: Ending<'_>,
+    image: &Image,
+) -> Result<(), Fail>
+    requires desks { (1 ≤ script.now.desks) × (script.now.desks ≤ MAX_WORKERS) }
+    requires limit { script.now.limit ≤ MAX_BATCH }
+{
+    let opened = Hall::new(alloc, image, 100, script.desks, script.limit)?;
+    let Lines { queues, rows } = line_up(alloc, image, script.desks, &ByEntry)?;
+    let queues = set_apart(alloc, queues)?;
+    let lines = Lines { queues, rows };
+    play_at(rt, alloc, script, ending, image, opened, lines)
+}
+
 /// Plays a script, which ends so: at the lines of a hall, and at queues apart from it.
 pub(crate) fn play_to<R: Abort + Threads + Wait + Sync>(
     rt: &R,
@@ -540,17 +600,9 @@ pub(crate) fn play_to<R: Abort + Threads + Wait + Sync>(
     ending: Ending<'_>,
 ) -> Result<(), Fail> {
     let image = image_of(rt, alloc, script)?;
-    let desks = script.desks;
-    assert!(rt; 1 <= desks && desks <= MAX_WORKERS);
-    assert!(rt; script.limit <= MAX_BATCH);
-    let opened = Hall::with_lines(alloc, &image, 100, desks, script.limit)?;
-    let lines = line_up_in_hall(alloc, &image, desks)?;
-    play_at(rt, alloc, script, ending, &image, opened, lines)?;
-    let opened = Hall::new(alloc, &image, 100, desks, script.limit)?;
-    let Lines { queues, rows } = line_up(alloc, &image, desks, &ByEntry)?;
-    let queues = set_apart(alloc, queues)?;
-    let lines = Lines { queues, rows };
-    play_at(rt, alloc, script, ending, &image, opened, lines)
+    assert!(rt; 1 <= script.desks && script.desks <= MAX_WORKERS && script.limit <= MAX_BATCH);
+    play_in_hall(rt, alloc, script, ending, &image)?;
+    play_apart(rt, alloc, script, ending, &image)
 }
 
 /// One section, in which 1 is added to the guard's word.

@@ -8,7 +8,7 @@ ghost use Rattle.tc_workers.specs.Crew.{AreAtWork};
 ghost use Rattle.tc_workers_tests.specs.Scripts.{IsAtHall, IsKeeper, IsPlaying};
 
 use crate::scripts::Action::{Adopts, Claim, GoesOn, Run, Ships};
-use crate::scripts::{Ending, Player, START, Script, TWO_GUARDS, in_hand, play_to};
+use crate::scripts::{Ending, Player, START, Script, TWO_GUARDS, in_hand, play_to, player_of};
 use crossbeam_utils::atomic::AtomicCell;
 use std::process::Abort;
 use std::sync::{Mutex, Wait};
@@ -113,17 +113,34 @@ pub(crate) fn keeper_of<R: Abort, Q: Order>(
     desk.finish()
 }
 
-/// Settles the current package. The run is stopped, and the wait for what comes next ends.
-fn settle_in_vain<R: Abort + Wait, Q: Order>(rt: &R, bench: &Bench<'_, Q>, player: &mut Player<Q>)
-    requires { IsPlaying bench.now player.old.desk player.old.hand player.old.end }
+/// Ends a desk, which withholds what another one will wait for, and stops the run: its pass.
+fn stop_as<R: Abort, Q: Order>(rt: &R, bench: &Bench<'_, Q>, player: Player<Q>, kept: Kept) -> Pass
+    requires { IsPlaying bench.now player.desk player.hand player.end }
+    ensures { IsAtHall bench.now result }
 {
+    let (mut pass, mut seats) = keeper_of(rt, bench, player);
+    keep(rt, bench, &mut pass, &mut seats, kept);
+    bench.hall.stop(&mut pass);
+    pass
+}
+
+/// Settles the first desk's current package. The run is stopped, and the wait for what comes next
+/// ends.
+fn settle_in_vain<R: Abort + Wait, Q: Order>(
+    rt: &R,
+    bench: &Bench<'_, Q>,
+    players: &mut [Player<Q>],
+)
+    requires { All (λ p. IsPlaying bench.now p.desk p.hand p.end) players.old }
+{
+    assert!(rt; !players.is_empty());
+    let player = &mut players[0];
     let (package, end) = in_hand(rt, bench, player);
     match player.desk.settle(rt, bench, package, end) {
         Settled::Stopped => {}
         _ => panic!(rt; "the run was stopped"),
     }
-    assert!(rt; player.desk.back().is_none());
-    assert!(rt; player.desk.handed().is_empty());
+    assert!(rt; player.desk.back().is_none() && player.desk.handed().is_empty());
 }
 
 /// Compares the words of all threads' places.
@@ -160,11 +177,8 @@ pub(crate) fn wait_in_vain<R: Abort + Wait, Q: Order>(
     let Some(last) = players.pop() else {
         panic!(rt; "no desk keeps anything")
     };
-    assert!(rt; !players.is_empty());
-    let (mut pass, mut seats) = keeper_of(rt, bench, last);
-    keep(rt, bench, &mut pass, &mut seats, vain.kept);
-    bench.hall.stop(&mut pass);
-    settle_in_vain(rt, bench, &mut players[0]);
+    let mut pass = stop_as(rt, bench, last, vain.kept);
+    settle_in_vain(rt, bench, &mut players);
     check_words(rt, bench, &mut pass, vain.words);
     check_home(rt, bench, &mut pass, vain.home);
 }
@@ -203,6 +217,23 @@ impl<R: Wait + Sync> Gate for Stopping<'_, R> {
     }
 }
 
+/// The observer that stops the run of this hall by this pass, after so many blocks.
+fn stop_after<'a, R: Wait + Sync>(
+    rt: &'a R,
+    hall: &'a Hall,
+    pass: Pass,
+    blocks: u32,
+) -> Stopping<'a, R>
+    requires { pass.table ≡ hall.now.table }
+{
+    Stopping {
+        rt,
+        blocks,
+        committed: AtomicCell::new(0),
+        stopper: Mutex::new(Stopper { hall, pass }),
+    }
+}
+
 /// The pass of a worker that has not begun.
 fn spare<R: Abort, Q: Order>(rt: &R, bench: &Bench<'_, Q>, crew: &mut Vec<Worker<Q>>) -> Pass
     requires { AreAtWork bench.now crew.old.items }
@@ -212,13 +243,7 @@ fn spare<R: Abort, Q: Order>(rt: &R, bench: &Bench<'_, Q>, crew: &mut Vec<Worker
     let Some(worker) = crew.pop() else {
         panic!(rt; "there is a worker")
     };
-    let Worker { desk, ready: _ } = worker;
-    let player = Player {
-        desk,
-        hand: None,
-        end: None,
-    };
-    keeper_of(rt, bench, player).0
+    keeper_of(rt, bench, player_of(bench, worker)).0
 }
 
 /// Checks that no package is out.
@@ -245,18 +270,9 @@ where
     assert!(rt; !crew.is_empty());
     // More are awaited than ever begin, as where the host gives too few threads: nobody waits for long.
     let bell = Bell::new(u64::from(MAX_WORKERS));
-    let gate = Stopping {
-        rt,
-        blocks,
-        committed: AtomicCell::new(0),
-        stopper: Mutex::new(Stopper {
-            hall: bench.hall,
-            pass,
-        }),
-    };
+    let gate = stop_after(rt, bench.hall, pass, blocks);
     let Finished { mut pass, all_done } = together(rt, bench, &gate, &bell, crew);
-    assert!(rt; !all_done);
-    assert!(rt; gate.committed.load() > blocks);
+    assert!(rt; !all_done && gate.committed.load() > blocks);
     check_back(rt, bench, &mut pass);
 }
 

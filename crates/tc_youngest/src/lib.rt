@@ -18,6 +18,3 @@ mod queue;
 mod stack;
 
 pub use queue::{Youngest, YoungestQueue};
-
-#[cfg(test)]
-mod tests;

@@ -1,8 +1,8 @@
-//! A line of the table, as `act` has it.
+//! The values of a line of the table, as `act` computes them.
 
 ghost use Rattle.std.specs.Prelude.{◌<◌};
 
-use std::fmt;
+use std::alloc::AllocError;
 use tc_elf::image::Image;
 use tc_exec::outcome::Act;
 use tc_exec::step::act;
@@ -26,15 +26,6 @@ pub static FILE: [u8; 116] = [
     0xb3, 0x72, 0x73, 0x02,
 ];
 
-/// A pair of numbers. It prints as a line of the table, as `act` computes it.
-#[derive(Clone, Copy)]
-pub struct Line<'a> {
-    /// The image of `FILE`.
-    pub image: &'a Image,
-    pub x6: u32,
-    pub x7: u32,
-}
-
 /// x5 after the next instruction; None if it does something else.
 fn x5_after(image: &Image, regs: &Regs) -> Option<u32> {
     match &act(image, Held::none(), regs, 0) {
@@ -51,16 +42,18 @@ fn before(word: u32, x6: u32, x7: u32) -> Regs
     regs.with(Reg::of(6), x6).with(Reg::of(7), x7)
 }
 
-impl fmt::Display for Line<'_> {
-    fn fmt<W: fmt::Write>(&self, f: &mut fmt::Formatter<W>) -> fmt::Result {
-        let (x6, x7) = (self.x6, self.x7);
-        write!(f, "{x6:08x},{x7:08x}")?;
-        for word in 0..8 {
-            match x5_after(self.image, &before(word, x6, x7)) {
-                Some(value) => write!(f, ",{value:08x}")?,
-                None => write!(f, ",no value")?,
-            }
-        }
-        Ok(())
+/// Appends a value behind a comma.
+fn say_value(said: &mut String, value: Option<u32>) -> Result<(), AllocError> {
+    match value {
+        Some(value) => write!(said, ",{value:08x}"),
+        None => said.push_str(",no value"),
     }
+}
+
+/// Appends the values of a pair of numbers, as `act` computes them. The image is that of `FILE`.
+pub fn say_values(said: &mut String, image: &Image, x6: u32, x7: u32) -> Result<(), AllocError> {
+    for word in 0..8 {
+        say_value(said, x5_after(image, &before(word, x6, x7)))?;
+    }
+    Ok(())
 }

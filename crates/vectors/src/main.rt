@@ -5,18 +5,20 @@
 //! line of headings, and then a line for each word or pair. One line is printed for each word and
 //! each pair that differs, and at the end how many of either agree.
 //!
-//! - `words`: the table of words, whose lines `row` prints as `decode` has them.
-//! - `pairs`: the table of pairs, whose lines `line` prints as `act` has them.
+//! - `head`: the number at the head of a line.
+//! - `words`: the table of words, whose rows `row` has as `decode` reads them.
+//! - `pairs`: the table of pairs, whose values `line` has as `act` computes them.
 #![tactic(auto)]
 
+mod head;
 mod line;
 mod pairs;
 mod row;
 mod words;
 
 use line::FILE;
-use std::alloc::Global;
-use std::io::{self, BufRead, BufReader};
+use std::alloc::{AllocError, Global};
+use std::io;
 use tc_elf::image::Image;
 use tc_elf::load::load;
 
@@ -57,52 +59,78 @@ fn table_of(line: &str) -> Option<Table> {
 /// The tables, as far as they were read.
 #[derive(Drop)]
 struct Tables {
-    image: Option<Image>,
     table: Table,
     words: Tally,
     pairs: Tally,
+    /// What stands here in the place of the last line.
+    said: String,
+    /// The lines that differ, as they are printed.
+    differ: String,
 }
 
 impl Tables {
-    /// Reads a line, and answers what stands here in its place if that differs.
-    fn read(&mut self, alloc: Global, line: &str) -> io::Result<Option<String>> {
-        if let Some(next) = table_of(line) {
-            self.table = next;
-            return Ok(None);
+    fn new(alloc: Global) -> Tables {
+        Tables {
+            table: Table::Words,
+            words: Tally::new(),
+            pairs: Tally::new(),
+            said: String::new(alloc),
+            differ: String::new(alloc),
         }
-        let said = match self.table {
-            Table::Words => words::said(alloc, line)?,
-            Table::Pairs => pairs::said(alloc, &self.image, line)?,
-        };
-        let agrees = said.as_str() == line;
+    }
+
+    /// Counts the last line, and notes it if it differs.
+    fn count(&mut self, line: &str) -> Result<(), AllocError> {
+        let agrees = self.said.as_str() == line;
         match self.table {
             Table::Words => self.words.count(agrees),
             Table::Pairs => self.pairs.count(agrees),
         }
-        Ok(if agrees { None } else { Some(said) })
+        if agrees {
+            return Ok(());
+        }
+        let said = self.said.as_str();
+        writeln!(self.differ, "the table has {line}, and here stands {said}")
+    }
+
+    /// Reads a line.
+    fn read(&mut self, image: &Image, line: &str) -> Result<(), AllocError> {
+        if let Some(next) = table_of(line) {
+            self.table = next;
+            return Ok(());
+        }
+        self.said.clear();
+        match self.table {
+            Table::Words => words::say(&mut self.said, line)?,
+            Table::Pairs => pairs::say(&mut self.said, image, line)?,
+        }
+        self.count(line)
+    }
+
+    /// Reads the lines of a text.
+    fn read_all(&mut self, image: &Image, text: &str) -> Result<(), AllocError> {
+        for line in text.lines() {
+            self.read(image, line)?;
+        }
+        Ok(())
     }
 }
 
-fn main(rt: HostRuntime) -> io::Result<()> {
-    let alloc = rt.alloc();
-    let mut tables = Tables {
-        image: load(alloc, &FILE).ok(),
-        table: Table::Words,
-        words: Tally::new(),
-        pairs: Tally::new(),
-    };
-    for line in BufReader::new(alloc, rt.reader())?.lines(alloc) {
-        let line = line?;
-        if let Some(said) = tables.read(alloc, line.as_str())? {
-            println!(rt; "the table has {line}, and here stands {said}")?;
-        }
+/// The tables of a text; none if the guest file of the pairs is not loaded.
+fn tables_of(alloc: Global, text: &str) -> Result<Tables, AllocError> {
+    let mut tables = Tables::new(alloc);
+    if let Ok(image) = &load(alloc, &FILE) {
+        tables.read_all(image, text)?;
     }
+    Ok(tables)
+}
+
+fn main(rt: HostRuntime) -> io::Result<()> {
+    let text = io::read_to_string(rt.alloc(), rt.reader())?;
+    let tables = tables_of(rt.alloc(), &text)?;
+    let (words, pairs) = (tables.words, tables.pairs);
     println!(rt;
-        "{} words: {} agree",
-        tables.words.lines, tables.words.agree
-    )?;
-    println!(rt;
-        "{} pairs: {} agree",
-        tables.pairs.lines, tables.pairs.agree
+        "{}{} words: {} agree\n{} pairs: {} agree",
+        tables.differ, words.lines, words.agree, pairs.lines, pairs.agree
     )
 }

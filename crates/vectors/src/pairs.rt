@@ -7,9 +7,9 @@
 //! operations; then come all pairs of ten numbers at the ends of their ranges, among them 0 as a
 //! divisor and the least number by -1; and then numbers of random lengths and signs.
 
-use crate::line::Line;
-use std::alloc::Global;
-use std::io;
+use crate::head::head_of;
+use crate::line::say_values;
+use std::alloc::AllocError;
 use tc_elf::image::Image;
 
 /// The headings.
@@ -17,20 +17,18 @@ pub const HEADINGS: &str = "x6,x7,mul,mulh,mulhsu,mulhu,div,divu,rem,remu";
 
 /// The pair at the head of a line.
 fn pair_of(line: &str) -> Option<(u32, u32)> {
-    let (x6, rest) = line.split_once(',')?;
-    let (x7, _) = rest.split_once(',')?;
-    let x6 = u32::from_str_radix(x6, 16).ok()?;
-    let x7 = u32::from_str_radix(x7, 16).ok()?;
+    let (x6, rest) = head_of(line)?;
+    let (x7, _) = head_of(rest)?;
     Some((x6, x7))
 }
 
-/// The line that `act` gives in the place of a line of the table.
-pub fn said(alloc: Global, image: &Option<Image>, line: &str) -> io::Result<String> {
-    match (image, pair_of(line)) {
-        (Some(image), Some((x6, x7))) => {
-            let line = Line { image, x6, x7 };
-            Ok(format!(in alloc; "{line}")?)
+/// Appends the line that `act` gives in the place of a line of the table.
+pub fn say(said: &mut String, image: &Image, line: &str) -> Result<(), AllocError> {
+    match pair_of(line) {
+        Some((x6, x7)) => {
+            write!(said, "{x6:08x},{x7:08x}")?;
+            say_values(said, image, x6, x7)
         }
-        _ => Ok(format!(in alloc; "no pair")?),
+        None => said.push_str("no pair"),
     }
 }

@@ -1,38 +1,18 @@
-//! A line of the table, as `decode` has it.
+//! The row of an instruction in the table: its name, the numbers of its registers and its immediate,
+//! if it has them.
 
-use std::fmt;
+use std::alloc::AllocError;
 use tc_isa::decode::decode;
 use tc_isa::instr::{Cond, ImmOp, Instr, LoadKind, RegOp, StoreKind};
 use tc_isa::reg::Reg;
 
-/// A word. It prints as a line of the table, as `decode` reads it: the word, the name of the
-/// instruction, the numbers of its registers and its immediate, if it has them.
-#[derive(Clone, Copy, Debug)]
-pub struct Row {
-    pub word: u32,
-}
-
 /// The columns that an instruction has beside its name. An immediate is a number of 32 bits.
-#[derive(Clone, Copy, Debug)]
+#[derive(Clone, Copy)]
 struct Columns {
     rd: Option<Reg>,
     rs1: Option<Reg>,
     rs2: Option<Reg>,
     imm: Option<u32>,
-}
-
-impl fmt::Display for Row {
-    fn fmt<W: fmt::Write>(&self, f: &mut fmt::Formatter<W>) -> fmt::Result {
-        let word = self.word;
-        match &decode(word) {
-            Some(instr) => {
-                let name = name_of(instr);
-                let columns = Columns::of(instr);
-                write!(f, "{word:08x},{name},{columns}")
-            }
-            None => write!(f, "{word:08x},undefined,,,,"),
-        }
-    }
 }
 
 impl Columns {
@@ -60,20 +40,31 @@ impl Columns {
     }
 }
 
-impl fmt::Display for Columns {
-    fn fmt<W: fmt::Write>(&self, f: &mut fmt::Formatter<W>) -> fmt::Result {
-        for register in [self.rd, self.rs1, self.rs2] {
-            if let Some(register) = register {
-                let number = register.number();
-                write!(f, "{number}")?;
-            }
-            write!(f, ",")?;
-        }
-        match self.imm {
-            Some(imm) => write!(f, "{imm:08x}"),
-            None => Ok(()),
-        }
+/// Appends the column of a register, which stands before its comma.
+fn say_register(said: &mut String, register: Option<Reg>) -> Result<(), AllocError> {
+    if let Some(register) = register {
+        let number = register.number();
+        write!(said, "{number}")?;
     }
+    said.push_str(",")
+}
+
+/// Appends the columns.
+fn say_columns(said: &mut String, columns: &Columns) -> Result<(), AllocError> {
+    say_register(said, columns.rd)?;
+    say_register(said, columns.rs1)?;
+    say_register(said, columns.rs2)?;
+    match columns.imm {
+        Some(imm) => write!(said, "{imm:08x}"),
+        None => Ok(()),
+    }
+}
+
+/// Appends the row of an instruction, behind a comma.
+pub fn say(said: &mut String, instr: &Instr) -> Result<(), AllocError> {
+    let name = name_of(instr);
+    write!(said, ",{name},")?;
+    say_columns(said, &Columns::of(instr))
 }
 
 /// The name of an instruction in assembler.

@@ -9,35 +9,35 @@
 //!
 //! A word agrees if `decode` says of it what the table's line says, and `encode` gives it back.
 
-use crate::row::Row;
-use std::alloc::Global;
-use std::io;
+use crate::head::head_of;
+use crate::row;
+use std::alloc::AllocError;
 use tc_isa::decode::decode;
 use tc_isa::encode::encode;
 
 /// The headings.
 pub const HEADINGS: &str = "word,row,rd,rs1,rs2,imm";
 
-/// The row of the word at the start of a line, which is in hexadecimal digits.
-fn row_of(line: &str) -> Option<Row> {
-    let (digits, _) = line.split_once(',')?;
-    let word = u32::from_str_radix(digits, 16).ok()?;
-    Some(Row { word })
-}
-
-/// Whether `encode` gives back a word that is an instruction.
-fn comes_back(word: u32) -> bool {
-    match &decode(word) {
-        Some(instr) => encode(instr) == word,
-        None => true,
+/// Appends the row of a word, as `decode` reads it, and whether `encode` gives back another word.
+fn say_row(said: &mut String, word: u32) -> Result<(), AllocError> {
+    let Some(instr) = decode(word) else {
+        return said.push_str(",undefined,,,,");
+    };
+    row::say(said, &instr)?;
+    if encode(&instr) == word {
+        return Ok(());
     }
+    said.push_str(", which is encoded otherwise")
 }
 
-/// The line that `decode` gives in the place of a line of the table, if `encode` gives its word back.
-pub fn said(alloc: Global, line: &str) -> io::Result<String> {
-    match row_of(line) {
-        Some(row) if comes_back(row.word) => Ok(format!(in alloc; "{row}")?),
-        Some(row) => Ok(format!(in alloc; "{row}, which is encoded otherwise")?),
-        None => Ok(format!(in alloc; "no word")?),
+/// Appends the line that `decode` gives in the place of a line of the table, if `encode` gives its
+/// word back.
+pub fn say(said: &mut String, line: &str) -> Result<(), AllocError> {
+    match head_of(line) {
+        Some((word, _)) => {
+            write!(said, "{word:08x}")?;
+            say_row(said, word)
+        }
+        None => said.push_str("no word"),
     }
 }

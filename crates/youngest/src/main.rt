@@ -13,9 +13,6 @@ ghost use Rattle.tc_main.specs.Own.{run_words};
 ghost use Rattle.tc_main.specs.Top.{IsReport, ReadsAll, Writes};
 ghost use Rattle.tc_main.specs.Words.{GuestFile, option_words};
 
-#[cfg(test)]
-mod tests;
-
 use std::alloc::Global;
 use std::process::ExitCode;
 use std::sync::Wait;

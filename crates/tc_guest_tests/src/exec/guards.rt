@@ -1,14 +1,14 @@
 //! What loads, stores and guest calls do with five guards of 4 bytes, 8 bytes apart.
 
-use super::{STORED, check_told, image_from, moved, put_in, regs_of};
+use super::{STORED, Told, is_told, moved, put_in, regs_of};
+use crate::parts::{check_row, image_of_words};
 use Call::{Lock, Sleep, Unlock};
 use Fault::{BadCall, BadLock, LockOrder, Misaligned, NotHeld, Store, Unguarded};
 use Region::{Guard, Private, Text};
 use std::alloc::Global;
-use std::process::Abort;
 use std::test::Fail;
 use tc_elf::image::{Image, Region};
-use tc_exec::outcome::{Act, Call, Want};
+use tc_exec::outcome::{Act, Call, Put, Want};
 use tc_isa::fault::Fault;
 use tc_isa::held::Held;
 use tc_isa::regs::Regs;
@@ -91,22 +91,84 @@ static CALLS: [Called; 22] = [
     (&[], EXIT, 0xffff_ffff, Ok(Call::Exit)),
 ];
 
-/// The image of a file with a word of code, ten words of data, and a note that tells of a thread at
-/// the code and of five guards in the data.
-pub(super) fn image_of(rt: &impl Abort, alloc: Global, word: u32) -> Result<Image, Fail> {
-    let note = [4, 148, 0, 0, 80, 80, 4, 4];
-    let code = [1, 228, CODE, CODE, 4, 4, 5, 4];
-    let data = [1, 232, DATA, DATA, 40, 40, 6, 4];
-    let mut numbers = Vec::from_slice(alloc, &note)?;
-    numbers.extend_from_slice(&code)?;
-    numbers.extend_from_slice(&data)?;
-    numbers.extend_from_slice(&[8, 60, 1, 0x4f4c_4354, 0x0053_4b43, 1, 1, 5, CODE, 0])?;
-    for lock in 0..5u32 {
-        numbers.extend_from_slice(&[DATA + 8 * lock, 4])?;
-    }
-    numbers.push(word)?;
-    numbers.extend_from_slice(&[0; 10])?;
-    image_from(rt, alloc, CODE, 3, &numbers)
+/// A file with a word of code, which is left open, ten words of data, and a note that tells of a thread
+/// at the code and of five guards in the data.
+const GUARDED: [u32; 68] = [
+    0x464c_457f,
+    0x0001_0101,
+    0,
+    0,
+    0x00f3_0002,
+    1,
+    CODE,
+    52,
+    0,
+    0,
+    0x0020_0034,
+    3,
+    0, // The header.
+    4,
+    148,
+    0,
+    0,
+    80,
+    80,
+    4,
+    4, // The segment of the note.
+    1,
+    228,
+    CODE,
+    CODE,
+    4,
+    4,
+    5,
+    4, // The code's.
+    1,
+    232,
+    DATA,
+    DATA,
+    40,
+    40,
+    6,
+    4, // The data's.
+    8,
+    60,
+    1,
+    0x4f4c_4354,
+    0x0053_4b43,
+    1,
+    1,
+    5, // The note, of one thread and five guards.
+    CODE,
+    0,
+    DATA,
+    4,
+    DATA + 8,
+    4,
+    DATA + 16,
+    4,
+    DATA + 24,
+    4,
+    DATA + 32,
+    4, // These.
+    0, // The code.
+    0,
+    0,
+    0,
+    0,
+    0,
+    0,
+    0,
+    0,
+    0,
+    0, // The data.
+];
+
+/// The image of that file with this word of code.
+pub(super) fn image_of(alloc: Global, word: u32) -> Result<Image, Fail> {
+    let mut words = GUARDED;
+    words[57] = word;
+    image_of_words(alloc, &words)
 }
 
 pub(super) fn held_of(locks: &[u32]) -> Held {
@@ -134,7 +196,7 @@ fn called(regs: Regs, outcome: Result<Call, Fault>, answer: u32) -> Option<Act> 
 }
 
 /// What a load of a word wants and does, whose answer is STORED.
-fn told_of_load(regs: Regs, addr: u32, place: Result<Region, Fault>) -> Option<(Want, Act)> {
+fn told_of_load(regs: Regs, addr: u32, place: Result<Region, Fault>) -> Option<Told> {
     let region = match place {
         Ok(region) => region,
         Err(fault) => return Some((Want::Nothing, Act::Faulted(fault))),
@@ -151,58 +213,69 @@ fn told_of_load(regs: Regs, addr: u32, place: Result<Region, Fault>) -> Option<(
     Some((want, next))
 }
 
+/// Whether a load does what a row says.
+fn loads(image: &Image, row: &Access) -> Option<bool> {
+    let (locks, addr, place) = *row;
+    let regs = regs_of(CODE, addr, 0)?;
+    let told = told_of_load(regs, addr, place)?;
+    Some(is_told(image, held_of(locks), &regs, STORED, &told))
+}
+
 #[test]
 fn loads_lie_in_guards_that_are_held(rt: HostRuntime) -> Result<(), Fail> {
-    let image = image_of(&rt, rt.alloc(), LW)?;
-    for (locks, addr, place) in LOADS.iter().copied() {
-        let regs = regs_of(CODE, addr, 0).ok_or("a register")?;
-        let told = told_of_load(regs, addr, place).ok_or("a register")?;
-        check_told(&rt, rt.alloc(), &image, held_of(locks), regs, STORED, told)?;
+    let image = image_of(rt.alloc(), LW)?;
+    for (i, row) in LOADS.iter().enumerate() {
+        check_row(loads(&image, row) == Some(true), i)?;
     }
     Ok(())
 }
 
 /// What a store of STORED does.
 fn act_of_store(regs: Regs, addr: u32, place: Result<Region, Fault>) -> Option<Act> {
-    match place {
-        Ok(region) => put_in(regs, region, addr, 4, STORED),
-        Err(fault) => Some(Act::Faulted(fault)),
-    }
+    let region = match place {
+        Ok(region) => region,
+        Err(fault) => return Some(Act::Faulted(fault)),
+    };
+    let put = Put {
+        region,
+        addr,
+        width: 4,
+        value: STORED,
+    };
+    put_in(regs, put)
+}
+
+/// Whether a store does what a row says.
+fn stores(image: &Image, row: &Access) -> Option<bool> {
+    let (locks, addr, place) = *row;
+    let regs = regs_of(CODE, addr, STORED)?;
+    let told = (Want::Nothing, act_of_store(regs, addr, place)?);
+    Some(is_told(image, held_of(locks), &regs, 1, &told))
 }
 
 #[test]
 fn stores_lie_in_guards_that_are_held(rt: HostRuntime) -> Result<(), Fail> {
-    let image = image_of(&rt, rt.alloc(), SW)?;
-    for (locks, addr, place) in STORES.iter().copied() {
-        let regs = regs_of(CODE, addr, STORED).ok_or("a register")?;
-        let act = act_of_store(regs, addr, place).ok_or("a register")?;
-        let told = (Want::Nothing, act);
-        check_told(&rt, rt.alloc(), &image, held_of(locks), regs, 1, told)?;
+    let image = image_of(rt.alloc(), SW)?;
+    for (i, row) in STORES.iter().enumerate() {
+        check_row(stores(&image, row) == Some(true), i)?;
     }
     Ok(())
 }
 
-/// Asserts what a call does, if its answer is this.
-fn check_called(
-    rt: &impl Abort,
-    alloc: Global,
-    image: &Image,
-    row: Called,
-    answer: u32,
-) -> Result<(), Fail> {
-    let (locks, x17, x10, result) = row;
-    let regs = regs_of(CODE, x17, x10).ok_or("a register")?;
-    let act = called(regs, result, answer).ok_or("a register")?;
-    let told = (Want::Nothing, act);
-    check_told(rt, alloc, image, held_of(locks), regs, answer, told)
+/// Whether a call does what a row says, if its answer is this.
+fn calls(image: &Image, row: &Called, answer: u32) -> Option<bool> {
+    let (locks, x17, x10, result) = *row;
+    let regs = regs_of(CODE, x17, x10)?;
+    let told = (Want::Nothing, called(regs, result, answer)?);
+    Some(is_told(image, held_of(locks), &regs, answer, &told))
 }
 
 #[test]
 fn calls_are_checked_in_their_order(rt: HostRuntime) -> Result<(), Fail> {
-    let image = image_of(&rt, rt.alloc(), ECALL)?;
-    for row in CALLS.iter().copied() {
-        check_called(&rt, rt.alloc(), &image, row, 0)?;
-        check_called(&rt, rt.alloc(), &image, row, 1)?;
+    let image = image_of(rt.alloc(), ECALL)?;
+    for (i, row) in CALLS.iter().enumerate() {
+        let right = calls(&image, row, 0) == Some(true) && calls(&image, row, 1) == Some(true);
+        check_row(right, i)?;
     }
     Ok(())
 }

@@ -9,7 +9,8 @@ closed_at : (a : Contents) (r : Record) → slice_get a.records.items a.sealed �
 closed_at a r is = slice_get-map (shown a.edges.words a.words.items) a.records.items a.sealed ∙ ap (option_map (shown a.edges.words a.words.items)) is
 
 sealed_view : (a : Contents) (stamp worker : ℕ) (r s : Record) → KeptLock a → slice_get a.records.items a.sealed ≡ Some r → s ≡ sealed_record stamp worker r
-    → record { number = a.number; bytes = a.bytes.items; broken = a.broken; sections = a.sections; journal = shown_journal (grounds a.of.value a.number a.limit a.strict a.edges.words a.words.items) (map (shown a.edges.words a.words.items) (set a.records.items a.sealed s)) (a.sealed + 1) (open_in a.opened a.next) (entry_room_in a) (room_in a.words) } ≡ with_journal (sealed_as stamp worker) (view_of a)
+    → record { number = a.number; bytes = a.bytes.items; broken = a.broken; sections = a.sections; journal = shown_journal (grounds a.of.value a.number a.limit a.strict a.edges.words a.words.items) (map (shown a.edges.words a.words.items) (set a.records.items a.sealed s)) (a.sealed + 1) (open_in a.opened a.next) (entry_room_in a) (room_in a.words) }
+    ≡ with_journal (sealed_as stamp worker) (view_of a)
 sealed_view a stamp worker r s k is made =
     let f = shown a.edges.words a.words.items in
     let old = map f a.records.items in

@@ -1,9 +1,9 @@
 ghost use Rattle.std.specs.Prelude.{◌≡◌};
 
-use crate::{Next, first_release, plan};
 use tc_isa::fault::Fault;
 use tc_isa::held::Held;
 use tc_journal::block::{Block, End, Kind};
+use tc_nested::{Next, first_release, plan};
 
 /// The block of a section with these locks, which ended so.
 fn section(held: Held, end: End) -> Block

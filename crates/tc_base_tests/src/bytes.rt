@@ -1,8 +1,5 @@
-use crate::all::{LIMIT, ReadAll, read_all, write_all};
-use crate::memory::{MemSink, MemSource};
-use crate::source::{Sink, Source};
-use crate::word::Word;
 use std::test::Fail;
+use tc_io::{LIMIT, MemSink, MemSource, ReadAll, Sink, Source, Word, read_all, write_all};
 
 #[test]
 fn a_word_keeps_its_bytes(rt: HostRuntime) -> Result<(), Fail> {

@@ -1,14 +1,16 @@
+//! Who is served by the order of tc_youngest.
+
 ghost use Rattle.std.specs.Prelude.{◌≡◌};
 ghost use Rattle.tc_queue.specs.View.{IsOwnSeatOf};
+ghost use Rattle.tc_queue.specs.Words.{IsTurn};
 
-use super::*;
-use crate::stack::Stack;
 use std::alloc::{AllocError, Global};
 use std::process::Abort;
 use std::sync::Wait;
 use std::test::*;
 use tc_queue::{Arrival, Departure, Turn, Waiters};
 use tc_seats::{NotedSeat, QueueMaker};
+use tc_youngest::{Youngest, YoungestQueue};
 
 /// The first turn of a thread.
 fn turn(thread: u32) -> Turn
@@ -17,28 +19,68 @@ fn turn(thread: u32) -> Turn
     Turn { thread, number: 1 }
 }
 
-/// Threads 1, 2 and 3 wait in this order.
-fn three_wait(alloc: Global, bound: u32) -> Result<Stack, AllocError> {
-    let mut stack = Stack::new(alloc, bound)?;
-    for thread in 1..4 {
-        stack.link(turn(thread));
-    }
-    Ok(stack)
+/// The turn comes behind those that are there.
+fn come<R: Abort + Wait + Sync>(
+    rt: &R,
+    queue: &YoungestQueue<'_, R>,
+    seat: &mut NotedSeat,
+    own: Turn,
+)
+    requires threads { queue.now.threads ≡ 4 }
+    requires seat { IsOwnSeatOf queue.now seat.old }
+    requires turn { IsTurn 4 own }
+    ensures { IsOwnSeatOf queue.now seat.new }
+{
+    let Arrival::Behind(place) = queue.enter(seat, own) else {
+        panic!(rt; "nobody is there")
+    };
+    queue.link(seat, place, own);
+}
+
+/// Thread 0 has the lock, and threads 1, 2 and 3 wait in this order.
+fn three_wait<R: Abort + Wait + Sync>(rt: &R, queue: &YoungestQueue<'_, R>, seat: &mut NotedSeat)
+    requires threads { queue.now.threads ≡ 4 }
+    requires seat { IsOwnSeatOf queue.now seat.old }
+    ensures { IsOwnSeatOf queue.now seat.new }
+{
+    assert!(rt; queue.enter(seat, turn(0)) == Arrival::First);
+    come(rt, queue, seat, turn(1));
+    come(rt, queue, seat, turn(2));
+    come(rt, queue, seat, turn(3));
 }
 
 /// Whoever of the three is served first and second comes again behind the others. Answers who is
 /// served, in five goes.
-fn goes<R: Abort>(rt: &R, alloc: Global, bound: u32) -> Result<[u32; 5], AllocError> {
-    let mut stack = three_wait(alloc, bound)?;
+fn goes<R: Abort + Wait + Sync>(
+    rt: &R,
+    queue: &YoungestQueue<'_, R>,
+    seat: &mut NotedSeat,
+) -> [u32; 5]
+    requires threads { queue.now.threads ≡ 4 }
+    requires seat { IsOwnSeatOf queue.now seat.old }
+{
     let mut order = [0; 5];
+    let mut own = turn(0);
     for go in 0..5 {
-        let next = stack.next().expect(rt, "somebody waits");
-        order[go] = next.thread;
+        own = queue.next(rt, seat, own).expect(rt, "somebody waits");
+        order[go] = own.thread;
         if go < 2 {
-            stack.link(next);
+            come(rt, queue, seat, own);
         }
     }
-    Ok(order)
+    order
+}
+
+/// Who is served in five goes with this bound.
+fn served<R: Abort + Wait + Sync>(
+    rt: &R,
+    alloc: Global,
+    bound: u32,
+) -> Result<[u32; 5], AllocError> {
+    let (queue, mut seats) = Youngest { rt, bound }.make(alloc, 4, 1)?;
+    let mut seat = seats.pop().expect(rt, "the seat");
+    three_wait(rt, &queue, &mut seat);
+    Ok(goes(rt, &queue, &mut seat))
 }
 
 /// Worked out by hand. With 0 nobody is passed over, which is the order of entry. With 1 thread 3 is
@@ -53,7 +95,7 @@ fn the_youngest_comes_first_within_the_bound(rt: HostRuntime) -> Result<(), Fail
         (9, [3, 3, 3, 2, 1]),
     ];
     for (bound, wanted) in rows {
-        assert!(rt; goes(&rt, rt.alloc(), bound)? == wanted, "bound {bound}");
+        assert!(rt; served(&rt, rt.alloc(), bound)? == wanted, "bound {bound}");
     }
     Ok(())
 }
@@ -84,10 +126,9 @@ fn take_turns<R: Abort + Wait + Sync>(
 #[test]
 fn two_seats(rt: HostRuntime) -> Result<(), Fail> {
     let order = Youngest { rt: &rt, bound: 1 };
-    let (queue, seats) = order.make(rt.alloc(), 2, 2)?;
-    let mut seats = seats.into_iter();
-    let mut zero = seats.next().expect(&rt, "the first seat");
-    let mut one = seats.next().expect(&rt, "the second seat");
+    let (queue, mut seats) = order.make(rt.alloc(), 2, 2)?;
+    let mut one = seats.pop().expect(&rt, "the second seat");
+    let mut zero = seats.pop().expect(&rt, "the first seat");
     take_turns(&rt, &queue, &mut zero, &mut one);
     Ok(())
 }

@@ -1,6 +1,6 @@
-use super::*;
 use std::test::*;
 use tc_queue::{QueueCall, Turn};
+use tc_seats::Seats;
 
 /// Each seat that is made can note calls, one after another.
 #[test]
