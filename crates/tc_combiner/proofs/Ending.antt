@@ -2,7 +2,7 @@
 use Rattle.std.proofs.Common.{◌≡◌, ◌≢◌, ◌<◌, ◌≤◌, inl, inr, ℕ, zero, suc, ◌^◌, ◌+◌, ◌-◌, ◌*◌, Bool, true, false, not, ◌&&◌, ◌==◌, cond, List, [], ◌∷◌, ◌++◌, length, map, filter, get_or, refl, sym, ap, ◌∙◌, subst, subst₂, arith, append_assoc, append-nil, Option, Some, None, is_some, slice_index_or}
 use Rattle.std.proofs.lemmas.Bool.{and_right, cond-false, cond-true, or_right}
 use Rattle.tc_combiner.proofs.Vocabulary.{Acts, AreSameSeats, AreSeats, Asks, AtSeat, Block, PassCall, Change, DeskStep, DidLeave, DidLeaveAll, Did_stop, Done, Ending, Ends, HallView, DeskParts, Has_ended, IsAtHall, IsEmptied, IsInOrder, IsPlain, IsSeatFor, IsSoundPackage, Knows, LeftAs, LeftInOrder, LockView, MAX_HELD, MayAct, MayEnd, MayGive}
-use Rattle.tc_combiner.proofs.Vocabulary.{MayRelease, OneLeft, Pack, PackageView, PutAllBack, QueueView, SeatView, SeatsLeft, HallTerms, Turn, at_lock, back, bare, by_parts, change, dite, ends_thread, has, is_running, last_of, locked_in, locks, nat_tests, no_seat, packed, put_call, seat_at, threads, turn_of, unlocks, was_cut, ℕ_discrete}
+use Rattle.tc_combiner.proofs.Vocabulary.{MayRelease, OneLeft, Owned, Pack, PackageView, PutAllBack, QueueView, SeatView, SeatsLeft, HallTerms, Turn, at_lock, back, bare, by_parts, change, dite, ends_thread, has, is_running, last_of, locked_in, locks, nat_tests, no_seat, packed, put_call, seat_at, threads, turn_of, unlocks, was_cut, ℕ_discrete}
 use Rattle.std.proofs.lemmas.Bool.Decides.{eqb_tells}
 use Rattle.std.specs.List.{range_with_len}
 use Rattle.tc_isa.specs.Sets.{without_lock, locks_of}
@@ -12,6 +12,9 @@ use Rattle.std.proofs.lemmas.Nat.Bits.{bit_at-zero}
 use Rattle.std.specs.Prelude.{MatchOption}
 use Rattle.tc_journal.proofs.Locks.{has_none}
 use Rattle.tc_turn.proofs.Few.{less_few}
+use Rattle.tc_combiner.specs.Stances.{KnowsLines, LeftSo}
+use Rattle.tc_combiner.proofs.Stances.{stop_acts}
+use Rattle.tc_combiner.proofs.Leaving.{out_still, still_at, still_then, stop_at}
 use Rattle.tc_combiner.proofs.Acting.{acted_by, acted_then, acts_none, at_after, takes_none}
 use Rattle.tc_combiner.proofs.Answering.{back_answers, keeps_answers, then_answers, then_at, wider}
 use Rattle.tc_combiner.proofs.PassedOn.{few_left, few_more, left_after}
@@ -115,8 +118,9 @@ left_was k b q p r i s z t y parts h g was is same numbers first last d =
     subst (λ (u : Turn). LeftAs (by_parts k q (change s y) parts) d.state b u d.calls was is) (same_turn p q i same numbers)
     (subst₂ (λ (c e : SeatView). LeftAs (by_parts k q (change c e) parts) d.state b (turn_of p i) d.calls was is) first (sym last) at)
 
-pub leaves_first : (hall : HallView) (b : Block) (q : PackageView) (ss : List SeatView) (h : DeskParts) → MayAct hall (Pack q ∷ []) (length (locks_of b.held)) h → ((j : ℕ) → is_some (locked_in q j) ≡ has b.held j) → Ending hall.terms b (change q q) b.held (change ss ss) (change h h) false
-leaves_first hall b q ss h m locks = record {
+pub leaves_first : (hall : HallView) (b : Block) (q : PackageView) (ss : List SeatView) (h : DeskParts) → MayAct hall (Pack q ∷ []) (length (locks_of b.held)) h → ((j : ℕ) → is_some (locked_in q j) ≡ has b.held j) → KnowsLines hall.terms h.pass.knows (Pack q ∷ [])
+    → Ending hall.terms b (change q q) b.held (change ss ss) (change h h) false
+leaves_first hall b q ss h m locks lines = record {
   calls = [];
   acted = acted_by hall.terms [] (Pack q ∷ []) (Pack q ∷ []) h h (acts_none h.pass (Pack q ∷ [])) refl refl;
   aside = refl;
@@ -124,6 +128,7 @@ leaves_first hall b q ss h m locks = record {
   same = refl;
   granted = refl;
   numbers = refl;
+  lines = record { lines = lines; turns = λ lined t c e. refl };
   within = λ j f. f;
   left = λ j f. refl;
   gone = λ j f. not_some (locked_in q j) (locks j ∙ f);
@@ -138,8 +143,8 @@ leaves_first hall b q ss h m locks = record {
 }
 
 leaves_one : (k : HallTerms) (b : Block) (q p r : PackageView) (rest next i : ℕ) (ss ts us : List SeatView) (h g m : DeskParts) (was is : Bool) → Ending k b (change q p) rest (change ss ts) (change h g) was → has rest i ≡ true → ((j : ℕ) → has rest j ≡ true → i ≤ j) → i < 32 → ((j : ℕ) → has next j ≡ (not (j == i) && has rest j))
-    → AtSeat i ts us (λ s t. DidLeave k i b (change p r) (change s t) (change g m) (change was is)) → Ending k b (change q r) next (change ss us) (change h m) is
-leaves_one k b q p r rest next i ss ts us h g m was is y waits least small each at =
+    → AtSeat i ts us (λ s t. DidLeave k i b (change p r) (change s t) (change g m) (change was is)) → LeftSo k h.pass.knows m.pass.knows r is → Ending k b (change q r) next (change ss us) (change h m) is
+leaves_one k b q p r rest next i ss ts us h g m was is y waits least small each at so =
     let d = at.here in
     let few = few_more d (few_left (by_parts k p (change (seat_at ts i) (seat_at us i)) (change g m)) d.state b (turn_of p i) d.calls was is d.became) in record {
       calls = y.calls ++ d.calls;
@@ -149,6 +154,7 @@ leaves_one k b q p r rest next i ss ts us h g m was is y waits least small each 
       same = ap bare d.taken.is ∙ y.same;
       granted = ap (λ (c : PackageView). c.granted) d.taken.is ∙ y.granted;
       numbers = ap (λ (c : PackageView). c.numbers) d.taken.is ∙ y.numbers;
+      lines = so;
       within = λ j f. y.within j (left_in rest next i j each f).1;
       left = λ j f. let z = left_in rest next i j each f in place_other i None p r d.taken.locks j z.0 ∙ y.left j z.1;
       gone = λ j f. dite (ℕ_discrete j i) (λ (s : j ≡ i). ap (locked_in r) s ∙ place_here i None p r d.taken.locks) (λ (ne : j ≢ i). place_other i None p r d.taken.locks j ne ∙ y.gone j (gone_in rest next i j each f ne));
@@ -182,16 +188,21 @@ leaves_one k b q p r rest next i ss ts us h g m was is y waits least small each 
 module _ {k : HallTerms} {b : Block} {q p : PackageView} {rest : ℕ} {ss ts : List SeatView} {h g : DeskParts} {was : Bool} (y : Ending k b (change q p) rest (change ss ts) (change h g) was) where
   -- the run was not stopped before
   pub leaves_more : {r : PackageView} {next i : ℕ} {us : List SeatView} {m : DeskParts} {is : Bool} → was ≡ false → has rest i ≡ true → ((j : ℕ) → has rest j ≡ true → i ≤ j) → i < 32 → ((j : ℕ) → has next j ≡ (not (j == i) && has rest j))
-      → AtSeat i ts us (λ s t. DidLeave k i b (change p r) (change s t) (change g m) (change false is)) → Ending k b (change q r) next (change ss us) (change h m) is
-  leaves_more {r = r} {next = next} {i = i} {us = us} {m = m} {is = is} e waits least small each at = leaves_one k b q p r rest next i ss ts us h g m false is (subst (λ (x : Bool). Ending k b (change q p) rest (change ss ts) (change h g) x) e y) waits least small each at
+      → AtSeat i ts us (λ s t. DidLeave k i b (change p r) (change s t) (change g m) (change false is)) → Owned h.pass.knows (Pack q ∷ []) → LeftSo k g.pass.knows m.pass.knows r is → Ending k b (change q r) next (change ss us) (change h m) is
+  leaves_more {r = r} {next = next} {i = i} {us = us} {m = m} {is = is} e waits least small each at own so =
+      let still = still_at k h.pass.knows g.pass.knows p was e y.lines in
+      let out = out_still h.pass.knows g.pass.knows q p y.acted.acts.moves y.same own in
+      leaves_one k b q p r rest next i ss ts us h g m false is (subst (λ (x : Bool). Ending k b (change q p) rest (change ss ts) (change h g) x) e y) waits least small each at (still_then k h.pass.knows g.pass.knows m.pass.knows p r is out still so)
 
   -- it was
   pub leaves_home : {r : PackageView} {next i : ℕ} {m : DeskParts} → was ≡ true → has rest i ≡ true → ((j : ℕ) → has rest j ≡ true → i ≤ j) → i < 32 → ((j : ℕ) → has next j ≡ (not (j == i) && has rest j))
       → ((s : SeatView) → DidLeave k i b (change p r) (change s s) (change g m) (change true true)) → Ending k b (change q r) next (change ss ts) (change h m) was
   leaves_home {r = r} {next = next} {i = i} {m = m} e waits least small each home =
-      let at : AtSeat i ts ts (λ s t. DidLeave k i b (change p r) (change s t) (change g m) (change true true)) = record { same = seats_first ts; others = λ j ne. refl; here = home (seat_at ts i) } in
+      let d = home (seat_at ts i) in
+      let at : AtSeat i ts ts (λ s t. DidLeave k i b (change p r) (change s t) (change g m) (change true true)) = record { same = seats_first ts; others = λ j ne. refl; here = d } in
+      let stop = stop_acts d.calls (Pack p ∷ []) (Pack r ∷ []) g.pass m.pass d.acted.acts (stop_at k h.pass.knows g.pass.knows p was e y.lines) in
       subst (λ (x : Bool). Ending k b (change q r) next (change ss ts) (change h m) x) (sym e)
-      (leaves_one k b q p r rest next i ss ts ts h g m true true (subst (λ (x : Bool). Ending k b (change q p) rest (change ss ts) (change h g) x) e y) waits least small each at)
+      (leaves_one k b q p r rest next i ss ts ts h g m true true (subst (λ (x : Bool). Ending k b (change q p) rest (change ss ts) (change h g) x) e y) waits least small each at stop)
 
 pub left_all : {k : HallTerms} {b : Block} {q p : PackageView} {rest : ℕ} {ss ts : List SeatView} {h g : DeskParts} {now : Bool} → rest ≡ 0 → Ending k b (change q p) rest (change ss ts) (change h g) now → DidLeaveAll k b (change q p) (change ss ts) (change h g) now
 unfolding locks_of

@@ -2,6 +2,7 @@
 use Rattle.std.proofs.Common.{◌≡◌, ◌<◌, ◌≤◌, ℕ, List, length, get_or, map, Vec, sym, ap, ◌∙◌, subst, subst₂, ◌∷◌, ◌++◌, arith, Option, Some}
 use Rattle.tc_combiner.proofs.Vocabulary.{AreSameSeats, AreSeats, BenchView, DeskView, Did_adopt, FitsBench, GoesOn, DeskParts, HasSeats, IsAside, IsAt, IsInHand, IsSamePass, IsSeatFor, IsSoundPackage, Item, Keeps, KeepsParts, Knows, MayAcquire, MayAsk, Owned}
 use Rattle.tc_combiner.proofs.Vocabulary.{Pack, PackageView, PassView, QueueView, Sleeping, SeatView, Settled, Shown, WantIsLawful, Wants_lock, carried, desk_of, desk_with, get_or_default, length-map, locks, no_seat, packed, seat_at, threads}
+use Rattle.tc_combiner.specs.Stances.{KnowsLines}
 use Rattle.tc_combiner.proofs.Acting.{owned_by}
 use Rattle.tc_combiner.proofs.Packages.{wants_runs}
 use Rattle.tc_context.proofs.Staging.{wants_uncut}
@@ -44,6 +45,7 @@ kept b q d e r fits hand k =
       works = record { own = k.acts.own; now = k.clock; room = k.room };
       moves = k.acts.moves;
       readied = (k.calls, k.acts.adds, k.readied);
+      lines = k.lines;
       fits = fits_after b d.pass e.pass d.seats e.seats d.sleepers e.sleepers d.now e.now d.aside e.aside d.handed e.handed fits k.acts.own k.acts.adds.told.image k.seats k.room k.aside out;
     }
 
@@ -85,6 +87,10 @@ at_bench b b' d q p a bench fits e n hand = let f : FitsBench b d = subst (λ (x
   out = subst₂ (λ (x : PassView) (y : Option PackageView). Owned x.knows (Pack q ∷ packed y)) (sym e) (sym n) hand;
   aside = λ c x. f.aside c (sym n ∙ x);
 }
+
+-- and how its pass stands at the lines
+pub lines_at : (b b' : BenchView) (d e : DeskView) (q : PackageView) → b ≡ b' → e ≡ d → KnowsLines b'.hall.terms d.pass.knows (Pack q ∷ packed d.aside) → KnowsLines b.hall.terms e.pass.knows (Pack q ∷ packed e.aside)
+lines_at b b' d e q bench same lines = subst₂ (λ (x : BenchView) (y : DeskView). KnowsLines x.hall.terms y.pass.knows (Pack q ∷ packed y.aside)) (sym bench) (sym same) lines
 
 -- the queues of the bench, and the desk's seats
 module _ {S X : Type 0} (queue : X → QueueView) (seen : S → SeatView) where

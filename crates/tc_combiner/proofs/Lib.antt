@@ -1,13 +1,17 @@
 pub mod Vocabulary
 pub mod Owning
+pub mod Stances
+pub mod Lining
 pub mod Looking
 pub mod Acting
 pub mod Answering
 pub mod Packages
 pub mod PassedOn
+pub mod Releasing
 pub mod Acquiring
 pub mod Unlocking
 pub mod Seats
+pub mod Leaving
 pub mod Ending
 pub mod Settling
 pub mod Fitting

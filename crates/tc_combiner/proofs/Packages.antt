@@ -22,15 +22,19 @@ only_held p h free i l e = ⊎_elim (λ y. y) (λ y. let f : granted_lock p.gran
 pub no_other : (p : PackageView) → HasOnlyHeld p → HasNoOther p
 no_other p h i l e = inl (h i l e)
 
+-- a package has its held locks and the one that was granted to it
+pub granted_own : (l : LockView) (k : Kind) (n : ℕ) (p q : PackageView) → DidGrant l k n p q → HasOnlyHeld p → HasNoOther q
+granted_own l k n p q d h i m e = dite (ℕ_discrete i l.number)
+    (λ (s : i ≡ l.number). inr (ap (λ (c : PackageView). granted_lock c.granted) d.is ∙ ap (λ (j : ℕ). Some j) (sym s)))
+    (λ (ne : i ≢ l.number). inl (ap (λ (c : PackageView). has c.context.guest.held i) d.is ∙ h i m (sym (place_other l.number (Some l) p q d.locks i ne) ∙ e)))
+
 pub granted_good : (l : LockView) (k : Kind) (n w : ℕ) (image : Shown) (p q : PackageView) → DidGrant l k n p q → p.image ≡ image → p.pending ≡ None → Runs p → HasOnlyHeld p
     → allows_of l.number l.journal.limit (blocks_of l) k w ≡ true → IsGood q image w
 granted_good l k n w image p q d of s r h a = record {
   of = ap (λ (c : PackageView). c.image) d.is ∙ of;
   settled = ap (λ (c : PackageView). c.pending) d.is ∙ s;
   runs = ap (λ (c : PackageView). is_running c.context.guest.status) d.is ∙ r;
-  locks = λ i m e. dite (ℕ_discrete i l.number)
-      (λ (s : i ≡ l.number). inr (ap (λ (c : PackageView). granted_lock c.granted) d.is ∙ ap (λ (j : ℕ). Some j) (sym s)))
-      (λ (ne : i ≢ l.number). inl (ap (λ (c : PackageView). has c.context.guest.held i) d.is ∙ h i m (sym (place_other l.number (Some l) p q d.locks i ne) ∙ e)));
+  locks = granted_own l k n p q d h;
   fits = ap (λ (g : Option Grant). fits_granted q.context g w) (ap (λ (c : PackageView). c.granted) d.is)
       ∙ (ap (λ (o : Option LockView). fits_in o l.number k w) (place_here l.number (Some l) p q d.locks) ∙ a);
 }

@@ -1,12 +1,19 @@
 -- A package whose block is sealed, and what is out then.
-use Rattle.std.proofs.Common.{◌≡◌, ℕ, ◌==◌, Bool, true, false, if◌then◌else◌, [], ◌∷◌, refl, sym, ap, ◌∙◌, subst, Option, Some, None, is_some}
-use Rattle.tc_combiner.proofs.Vocabulary.{DeskView, DidRun, DidSeal, Has, IsOut, Knows, LockView, MayCommit, Moves, Outs, Owns, Pack, PackageView, Seals, Shown, bare, erase, keep, kept, locked_in, outs, unless, with_seal}
+use Rattle.std.proofs.Common.{◌≡◌, ℕ, ◌==◌, Bool, true, false, if◌then◌else◌, [], ◌∷◌, ◌++◌, inr, refl, sym, ap, ◌∙◌, subst, Option, Some, None, is_some}
+use Rattle.tc_combiner.proofs.Vocabulary.{Block, DeskView, DidRun, DidSeal, HallTerms, Has, HasNone, IsOut, Knows, LockView, MayCommit, Moves, Outs, Owns, Pack, PackageView, PassCall, Seals, Shown, bare, erase, keep, kept, locked_in, outs, packed, unless, with_seal}
+use Rattle.tc_segment.specs.View.{sealed_block}
+use Rattle.tc_hall.specs.Standing.{IfLined, SealsAs, SealsPending, past, stand_in, standing_of, turns_of}
+use Rattle.tc_hall.specs.declared.board.PassCall.TheVariants.{Commit}
 use Rattle.tc_hall.proofs.Outs.{is_there, same_outs}
+use Rattle.tc_hall.proofs.Standing.{sealed_in, seals_as}
+use Rattle.tc_combiner.specs.Stances.{KnowsLines, WasReady}
+use Rattle.tc_combiner.proofs.Stances.{past_called}
+use Rattle.tc_combiner.proofs.Lining.{counts_still, hand_shows}
 use Rattle.tc_lemmas.proofs.Tests.{eq_self}
 
 -- the hall may seal it
-pub may_seal : (d : DeskView) (q : PackageView) → MayCommit d q → Seals d.pass.knows q
-may_seal d q m =
+pub may_seal : (k : HallTerms) (d : DeskView) (q : PackageView) → MayCommit k d q → Seals d.pass.knows q
+may_seal k d q m =
     let p : PackageView = m.before in
     let v : Knows = d.pass.knows in
     let out : IsOut (outs v) (Pack p) = m.hand.1.0 in record {
@@ -41,3 +48,25 @@ same_place o p n t s = same_outs (erase o (Pack n)) (erase o (Pack p))
 
 pub sealed_moves : (image : Shown) (v w : Knows) (p n : PackageView) (stamp : ℕ) → DidRun image p n → DidSeal n stamp v w → Moves v w (Pack p ∷ []) (Pack (with_seal stamp v.worker n) ∷ [])
 sealed_moves image v w p n stamp ran did = λ b zs out. (did.out, subst (λ (o : Outs). Owns b o zs) (sym (did.rest ∙ same_place (outs v) p n ran.runs.keeps.thread ran.runs.keeps.set)) out.1)
+
+-- ---- how the pass stands at the lines
+
+module _ (k : HallTerms) (v : Knows) (p q : PackageView) (a : Option PackageView) (free : (c : PackageView) → a ≡ Some c → HasNone c) (ready : WasReady k v p (packed a)) (ran : DidRun v.image p q) where
+  stands_before : k.lined ≡ true → (i : ℕ) → standing_of i v.calls ≡ stand_in p i
+  stands_before lined i = ready.lines.stands lined i ∙ hand_shows p a free i
+
+  pub seals_pending : IfLined k v (SealsPending v q)
+  seals_pending lined = inr (λ b e. (let same : ran.block ≡ b = cc (ran.pending, e) in subst (SealsAs v) same (seals_as v.image p q ready.of ready.sound ran ready.own v (stands_before lined))))
+
+  pub seal_lines : (w : Knows) (stamp : ℕ) → DidSeal q stamp v w → KnowsLines k w (Pack (with_seal stamp v.worker q) ∷ packed a)
+  seal_lines w stamp did =
+      let call : PassCall = Commit q.context.thread (sealed_block stamp v.worker ran.block) in
+      let same : did.block ≡ ran.block = cc (did.pending, ran.pending) in
+      let told : w.calls ≡ v.calls ++ call ∷ [] = ap (λ (x : Knows). x.calls) did.now ∙ ap (λ (b : Block). v.calls ++ Commit q.context.thread (sealed_block stamp v.worker b) ∷ []) same in
+      let called = past_called call k v w told in record {
+        stands = λ lined i. called.stands lined i ∙ (ap (past i call) (stands_before lined i) ∙ (sealed_in v.image p q ready.of ready.sound ran ready.own stamp v.worker i ∙ sym (hand_shows (with_seal stamp v.worker q) a free i)));
+        turns = λ lined. (
+          called.turns lined q.context.thread ∙ (ap (λ (t : ℕ). turns_of t v.calls) ran.runs.keeps.thread ∙ ((ready.lines.turns lined).0 ∙ sym ran.turns)),
+          counts_still v.calls w.calls (packed a) (λ t. called.turns lined t) (ready.lines.turns lined).1,
+        );
+      }

@@ -2,6 +2,7 @@
 use Rattle.std.proofs.Common.{◌≡◌, ◌≢◌, ◌<◌, ◌≤◌, ◌+◌, ℕ, Bool, true, false, not, ◌&&◌, ◌||◌, ◌==◌, if◌then◌else◌, List, [], length, refl, sym, ap, ◌∙◌, subst, arith, Option, Some, None, is_some}
 use Rattle.tc_combiner.proofs.Vocabulary.{AcquiredAs, Acquires, Answers, AreSameSeats, AtSeat, Block, PassCall, Cut, DeskView, DidAcquire, DidEnd, DidUnlock, End, EndedAs, Ends, HallView, DeskParts, HasBlock, HasOnlyHeld, HasReadied, IsAfter, IsAfterBlock, IsAtHall, IsGood, IsPlain, IsSoundPackage, Item, KeepsParts, Knows, LockView, MAX_HELD, MayAct, MayAsk, MayEnd, MayPark, MayRelease}
 use Rattle.tc_combiner.proofs.Vocabulary.{MaySettle, MayUnlock, PackageView, Sleeping, Runs, SeatView, Settled, SettledAs, Shown, Slept, HallTerms, Unlocked, UnlockedAs, Unlocks, WantIsLawful, Wants, Wants_lock, by_parts, change, desk_of, desk_with, ends_section, ends_thread, has, is_cut, last_of, locked_in, locks, nat_tests, next_lock, seat_at, thread_in, threads, was_cut}
+use Rattle.tc_combiner.specs.Settling.{StandsAfter}
 use Rattle.tc_combiner.proofs.Looking.{looks_at, looks_entered, none_asked}
 use Rattle.tc_combiner.proofs.PassedOn.{left_after}
 use Rattle.tc_combiner.proofs.Ending.{known_in}
@@ -130,12 +131,13 @@ module _ (k : HallTerms) (worker : ℕ) (b : Block) (q : PackageView) (s : IsSou
 
 -- ---- what was done with it, in the words of a desk
 
-pub keeps_of : (k : HallTerms) (cs : List PassCall) (q : PackageView) (ss ts : List SeatView) (x y : Sleeping) (h g : DeskParts) (hs : List ℕ) (r : Settled) → h.ready.items ≡ [] → Answers k cs q (change h g) r → AreSameSeats ss ts → y.clock ≡ x.clock → length y.sleepers ≡ length x.sleepers
+pub keeps_of : (k : HallTerms) (cs : List PassCall) (q : PackageView) (ss ts : List SeatView) (x y : Sleeping) (h g : DeskParts) (hs : List ℕ) (r : Settled) → h.ready.items ≡ [] → Answers k cs q (change h g) r → AreSameSeats ss ts → y.clock ≡ x.clock → length y.sleepers ≡ length x.sleepers → StandsAfter k g.pass.knows g.aside r
     → KeepsParts k q (desk_of h.pass ss x.sleepers x.clock h.aside hs) (desk_with g ts y) r
-keeps_of k cs q ss ts x y h g hs r none a same clock room = record {
+keeps_of k cs q ss ts x y h g hs r none a same clock room lines = record {
   calls = cs;
   acts = a.acts;
   readied = subst (λ (hs : List ℕ). HasReadied (threads k) r hs g.ready.items cs) none a.readied;
+  lines = lines;
   aside = a.aside;
   seats = same;
   clock = clock;

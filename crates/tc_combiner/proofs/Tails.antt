@@ -1,9 +1,9 @@
 -- The tie of lines over a whole order of a queue's calls and the machine's events.
-use Rattle.std.proofs.Common.{◌≡◌, ◌⊎◌, ℕ, suc, ◌+◌, ◌==◌, not, Bool, true, false, cond, List, [], ◌∷◌, ◌++◌, length, length-append, refl, sym, ap, ◌∙◌, subst, ⊎_elim, inl, inr, append_assoc, append-nil, arith, Option, Some, None, eqb-true, eq-eqb}
+use Rattle.std.proofs.Common.{◌≡◌, ◌⊎◌, ℕ, suc, ◌+◌, ◌==◌, not, Bool, true, false, cond, List, [], ◌∷◌, ◌++◌, length, length-append, refl, sym, ap, ◌∙◌, subst, ⊎_elim, inl, inr, append_assoc, append-nil, arith, Option, Some, None, eqb-true}
 use Rattle.std.proofs.lemmas.Bool.{and_parts}
 use Rattle.std.proofs.lemmas.List.{map-append}
 use Rattle.std.proofs.lemmas.Option.{none-some, same_Some}
-use mathlib.Core.Option.{some, some-injective, some-ne-none}
+use mathlib.Core.Option.{some, some-ne-none}
 use lib.ListN.{get_elem?}
 use Rattle.atomic_table.proofs.Lists.{at_longer, at_last, at_snoc}
 use Rattle.tc_elf.specs.Shown.{Shown}
@@ -22,7 +22,7 @@ use Rattle.tc_queue.specs.declared.turn.Entered.TheVariants.{Behind}
 use Rattle.tc_queue.specs.declared.turn.Leave.TheVariants.{Left, Followed}
 use Rattle.tc_queue.specs.declared.turn.QueueCall.{QueueCall}
 use Rattle.tc_queue.specs.declared.turn.QueueCall.TheVariants.{Enter as Did_enter, Link as Did_link, Next as Did_ask, Leave as Did_leave}
-use Rattle.tc_queue.specs.Calls.{answer_to_enter, answer_to_leave, tail_without, is_last}
+use Rattle.tc_queue.specs.Calls.{answer_to_enter, is_last}
 use Rattle.tc_queue.specs.Laws as queue
 use Rattle.tc_queue.specs.Laws.{Shows}
 use Rattle.tc_queue.specs.Order.{Plain, Made, IsLegal, MayCome, queue_after, plain_after, calls_of}
@@ -32,6 +32,8 @@ use Rattle.tc_combiner.proofs.Ties.{entered_line, left_line, enter_ties, leave_t
 use Rattle.tc_lemmas.proofs.Tests.{eq_self}
 use Rattle.tc_queue.specs.declared.board.SeatLog.{SeatLog}
 use Rattle.tc_combiner.specs.Tails.{is_call, passes_on, events_of_call, Beat, Call, Other, events_of, calls_in, core_after, GoTogether, without_first, turns_past, turns_in, entry_of, entries_of, PassTie, OrderTie, TurnsTie, NextTie}
+use Rattle.tc_hall.proofs.Turns.{tail_followed, turn_second}
+use Rattle.tc_hall.proofs.Through.{after_more}
 
 -- ---- what events do to a line
 
@@ -100,23 +102,12 @@ pass_tie image limits c e lock tail here on shows =
 
 -- ---- a whole order
 
-after_more : (image : Shown) (c : Core) (xs ys : List Event) → after_all image c (xs ++ ys) ≡ after_all image (after_all image c xs) ys
-after_more image c [] ys = refl
-after_more image c (x ∷ xs) ys = after_more image (effect image c x) xs ys
-
 -- what is so of a list of beats is so of those before the latest
 without_call : (image : Shown) (limits : Limits) (c : Core) (n lock w : ℕ) (m : Made) (before : List Beat) → GoTogether image limits c n lock (Call w m ∷ before) → GoTogether image limits c n lock before
 without_call image limits c n lock w m before g = record { empty = g.empty; legal = g.legal.1; enabled = enabled_front image limits (events_of lock before) (events_of_call lock w m.call) c g.enabled; others = g.others }
 
 without_other : (image : Shown) (limits : Limits) (c : Core) (n lock : ℕ) (e : Event) (before : List Beat) → GoTogether image limits c n lock (Other e ∷ before) → GoTogether image limits c n lock before
 without_other image limits c n lock e before g = record { empty = g.empty; legal = g.legal; enabled = enabled_front image limits (events_of lock before) (e ∷ []) c g.enabled; others = g.others.1 }
-
-followed : (u : Turn) (tail found : Option Turn) → Followed found ≡ answer_to_leave u tail → tail_without u tail ≡ tail
-followed u tail found = by_test (is_last u tail)
-  where
-    by_test : (b : Bool) → Followed found ≡ cond b Left (Followed tail) → cond b None tail ≡ tail
-    by_test true e = absurd (cc e)
-    by_test false e = refl
 
 pub order_tie : queue.EnterTie → queue.LeaveTie → OrderTie
 order_tie enter leave image limits c n lock [] g = g.empty
@@ -138,7 +129,7 @@ order_tie enter leave image limits c n lock (Call w m ∷ before) g =
     by_call (Did_link b u) may on is = is
     by_call (Did_ask u a) may on is = is
     by_call (Did_leave u Left) may on is = leave_ties leave image limits core w lock u q.tail v is on.0 (sym may.1)
-    by_call (Did_leave u (Followed found)) may on is = subst (λ (z : Option Turn). Shows z (line_of core lock)) (sym (followed u q.tail found may.1)) is
+    by_call (Did_leave u (Followed found)) may on is = subst (λ (z : Option Turn). Shows z (line_of core lock)) (sym (tail_followed u q.tail found may.1)) is
 order_tie enter leave image limits c n lock (Other e ∷ before) g =
     subst (λ (d : Core). Shows (queue_after (calls_in before)).tail (line_of d lock)) (sym (after_more image c (events_of lock before) (e ∷ [])))
     (by_pass (passes_on lock e) refl (order_tie enter leave image limits c n lock before (without_other image limits c n lock e before g)))
@@ -274,11 +265,6 @@ at_shift : (front us : List Turn) (i : ℕ) → get_elem? (front ++ us) (length 
 at_shift [] us i = let e : 0 + i ≡ i = omega arith in ap (get_elem? us) e
 at_shift (x ∷ front) us i = let e : suc (length front) + i ≡ suc (length front + i) = omega arith in ap (get_elem? (x ∷ front ++ us)) e ∙ at_shift front us i
 
-second_turn : (us : List Turn) (x : Turn) → get_elem? us 1 ≡ some x → is_second (threads_of us) x.thread ≡ true
-second_turn [] x e = absurd (some-ne-none x (sym e))
-second_turn (a ∷ []) x e = absurd (some-ne-none x (sym e))
-second_turn (a ∷ b ∷ us) x e = eq-eqb b.thread x.thread (ap (λ (u : Turn). u.thread) (some-injective b x e))
-
 pub next_tie : NextTie
 next_tie image limits c n lock w m before g once u x asked first =
     let order = calls_in before in
@@ -292,4 +278,4 @@ next_tie image limits c n lock w m before g once u x asked first =
     let here : r.0 ≡ length line.0 + 0 = once r.0 (length line.0 + 0) u (ap (λ (l : List Turn). get_elem? l r.0) (sym same) ∙ r.1) (at 0 ∙ first) in
     let later : length line.0 + 1 ≡ suc r.0 = (let h = here in omega arith) in
     let second : get_elem? (turns_in lock before) 1 ≡ some x = sym (at 1) ∙ (ap (get_elem? (entries_of order)) later ∙ (ap (λ (l : List Turn). get_elem? l (suc r.0)) (sym same) ∙ r.2)) in
-    ap (λ (l : List ℕ). is_second l x.thread) (turns_tie image limits c n lock before (without_call image limits c n lock w m before g)) ∙ second_turn (turns_in lock before) x second
+    ap (λ (l : List ℕ). is_second l x.thread) (turns_tie image limits c n lock before (without_call image limits c n lock w m before g)) ∙ turn_second (turns_in lock before) x second

@@ -2,7 +2,7 @@
 use Rattle.std.proofs.Common.{not, ◌⊎◌, ◌≡◌, ◌≢◌, ◌<◌, ◌≤◌, ◌+◌, inl, inr, ℕ, true, false, ◌&&◌, ◌==◌, List, [], ◌∷◌, ◌++◌, length, refl, sym, ap, ◌∙◌, subst, subst₂, arith, Option, Some, None, is_some}
 use Rattle.tc_combiner.proofs.Vocabulary.{Acted, Acts, All-cons, All-nil, Block, PassCall, Change, DeskStep, DidPass, DidTakeOut, Did_adopt, Did_stop, GaveUp, Goes, GoesOn, HallView, DeskParts, HasHeldAnd, HasNone, HasOnlyHeld, HoldsNone, IsAside, IsAt, IsAtHall, IsGood, IsPlain, IsSoundPackage, Item, Knows}
 use Rattle.tc_combiner.proofs.Vocabulary.{LockView, MAX_HELD, MayAct, MayGive, MayGoOn, MayRelease, MayUnlock, Owned, Pack, PackageView, PassView, Passed, PassedAs, PutAllBack, PutsAside, Ready, Runs, SeatView, SetAside, Settled, TakesDown, HallTerms, UnlockedAs, Unlocks, Was_adopted, Was_granted, Was_stopped, WentOn, Went_home}
-use Rattle.tc_combiner.proofs.Vocabulary.{adopts, and_parts, at_none, back, by_parts, change, dite, ends_section, adopted_in, has, is_only, is_running, last_of, locked_in, may_adopt, nat_tests, outs, packed, put_call, threads, turn_of, unlocks, was_cut, with_package, without_lock, ℕ_discrete}
+use Rattle.tc_combiner.proofs.Vocabulary.{adopts, and_parts, at_none, back, by_parts, change, dite, ends_section, erase, adopted_in, has, is_only, is_running, last_of, locked_in, may_adopt, nat_tests, outs, packed, put_call, threads, turn_of, unlocks, was_cut, with_package, without_lock, ℕ_discrete}
 use Rattle.std.proofs.lemmas.Bool.{and_left, and_right}
 use Rattle.std.proofs.lemmas.Nat.Bits.{bit_at-zero, bit_at_or, bit_at-pow_other}
 use Rattle.std.specs.Int.{bit_at}
@@ -14,6 +14,7 @@ use Rattle.tc_combiner.proofs.Answering.{back_answers, keeps_answers, then_answe
 use Rattle.tc_combiner.proofs.Looking.{looks_further}
 use Rattle.tc_combiner.proofs.Packages.{good_order, no_other, plain_gives, releases_uncut, ungranted_fits}
 use Rattle.tc_combiner.proofs.PassedOn.{few_followed, few_more, left_after}
+use Rattle.tc_combiner.proofs.Releasing.{threads_apart}
 use Rattle.tc_combiner.proofs.Owning.{place_here, place_other, swap, without_first}
 
 left_only_held : (i : ℕ) (l : LockView) (q p : PackageView) → DidTakeOut i l q p → HasHeldAnd i q → HasOnlyHeld p
@@ -102,6 +103,10 @@ module _ (hall : HallView) (i : ℕ) (b : Block) (q p : PackageView) (s t : Seat
       let y = at_after hall d.calls (Pack q ∷ packed h.aside) (Pack x ∷ Pack p ∷ packed h.aside) h.pass m.pass h.aside m.aside parts.at (adopts_beside x d) d.aside in
       let out : Owned m.pass.knows (Pack p ∷ packed m.aside) = subst (λ (o : Option PackageView). Owned m.pass.knows (Pack p ∷ packed o)) (sym d.aside) (without_first m.pass.knows (Pack x) (Pack p ∷ packed h.aside) y.out) in
       record { at = record { own = y.own; image = y.image; out = out; aside = y.aside }; room = room_after (Was_adopted x) d }
+
+  -- which is of another thread
+  pub adopted_apart : (x : PackageView) → DidPass hall.terms i b (change q p) (change s t) (change h m) (Was_adopted x) → x.context.thread ≢ p.context.thread
+  adopted_apart x d = threads_apart (outs m.pass.knows) p x (d.acted.acts.moves (erase (outs h.pass.knows) (Pack q)) [] (parts.at.out.1.0, refl)).1.0
 
   -- the lock went home or was granted, and the package goes on
   goes : {How : LockView → List PassCall → Type 0} (g : DeskParts) (r : Settled) (d : GaveUp hall.terms i (change q p) [] (change s t) (change h m) How) → PassedAs (by_parts hall.terms q (change s t) (change h g)) i b d.calls Went_home ⊎ PassedAs (by_parts hall.terms q (change s t) (change h g)) i b d.calls Was_granted → Goes hall.terms p (change m g) r

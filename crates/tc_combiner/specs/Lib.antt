@@ -1,6 +1,7 @@
 pub mod Vocabulary
 pub mod Change
 pub mod Packages
+pub mod Stances
 pub mod Walks
 pub mod View
 pub mod Steps

@@ -1,9 +1,11 @@
 -- What became of a released lock, and of all locks of a thread that has ended, with each call of the pass.
 use Rattle.std.specs.Prelude.{◌⊎◌, ◌≡◌, ℕ, Bool, true, false, List, [], ◌∷◌, ◌++◌, ◌<◌, Some, None, is_some, ◌≢◌, ◌+◌, ◌≤◌, length}
-use Rattle.tc_combiner.specs.Vocabulary.{Adopted, Block, PassCall, Did_adopt, Did_stop, Done, Free, GoesOn, Granted, HallView, DeskParts, Has_ended, IsAtRest, IsTurn, Item, Kind, Knows, Leave, Left, LineCall, LockView, MAX_HELD, Next, Pack, PackageView, Passed, Ready, Releases, SeatView, Settled, Shown, Stopped, HallTerms, Turn, Was_adopted, Was_granted, Was_stopped, Went_home, bare, blocks_of, ends_thread, has, last_of, locked_in, locks, locks_of, may_adopt, number_in, put_call, run_of, threads, without_lock}
+use Rattle.tc_combiner.specs.Vocabulary.{Adopted, Block, PassCall, Did_adopt, Did_stop, Done, Free, GoesOn, Granted, HallView, DeskParts, Has_ended, IsAtRest, IsTurn, Item, Kind, Knows, Leave, Left, LineCall, LockView, MAX_HELD, Next, Pack, PackageView, Passed}
+use Rattle.tc_combiner.specs.Vocabulary.{Ready, Releases, SeatView, Settled, Shown, Stopped, HallTerms, Turn, Was_adopted, Was_granted, Was_stopped, Went_home, bare, blocks_of, ends_thread, has, last_of, locked_in, locks, locks_of, may_adopt, number_in, put_call, run_of, threads, without_lock}
 use Rattle.tc_combiner.specs.Packages.{DidGrant, DidTakeOut, HasHeldAnd, IsGood, IsWaiter, Runs, HasNone}
 use Rattle.tc_combiner.specs.Walks.{Asks, LooksEachTime, Shows, Acted, MayAct, one_seat}
 use Rattle.tc_combiner.specs.Answers.{Does, WentOn, SetAside, back}
+use Rattle.tc_combiner.specs.Stances.{LeftSo}
 use Rattle.tc_combiner.specs.Change.{Change, change}
 use Rattle.tc_combiner.specs.Steps.{DeskStep, at_lock, by_parts, with_package}
 use Rattle.tc_combiner.specs.View.{seat_at}
@@ -218,6 +220,7 @@ pub record Ending (k : HallTerms) (b : Block) (q : Change PackageView) (rest : �
   pub same : bare q.new ≡ bare q.old
   pub granted : q.new.granted ≡ q.old.granted
   pub numbers : q.new.numbers ≡ q.old.numbers
+  pub lines : LeftSo k parts.old.pass.knows parts.new.pass.knows q.new now
   pub within : (j : ℕ) → has rest j ≡ true → has b.held j ≡ true
   pub left : (j : ℕ) → has rest j ≡ true → locked_in q.new j ≡ locked_in q.old j
   pub gone : (j : ℕ) → has rest j ≡ false → locked_in q.new j ≡ None

@@ -1,10 +1,11 @@
 -- What `settle` requires of a package, and what becomes of it by the end of its last block.
-use Rattle.std.specs.Prelude.{◌≡◌, ◌≢◌, ℕ, ◌+◌, ◌-◌, ◌^◌, min, true, List, [], ◌∷◌, ◌++◌, length, slice_set, Some, None, is_some}
-use Rattle.tc_combiner.specs.Vocabulary.{AllowsPending, AreTogether, Block, PassCall, Cut, DidRun, Did_park, End, GoesOn, HandsPending, IsSamePass, Pack, PackageView, Parked, Settled, Shown, Slept, HallTerms, Unlocked, Wants, has, last_by, last_of, locked_in, locks_of, put_call, threads, want_of}
+use Rattle.std.specs.Prelude.{◌≡◌, ◌≢◌, ℕ, ◌+◌, ◌-◌, ◌^◌, min, true, List, [], ◌∷◌, ◌++◌, length, slice_set, Option, Some, None, is_some}
+use Rattle.tc_combiner.specs.Vocabulary.{AllowsPending, AreTogether, Block, PassCall, Cut, DidRun, Did_park, End, GoesOn, HallView, DeskParts, HandsPending, IsSamePass, Knows, Pack, PackageView, Parked, Settled, Shown, Slept, HallTerms, Unlocked, Wants, has, last_by, last_of, locked_in, locks_of, put_call, threads, want_of}
 use Rattle.tc_combiner.specs.Packages.{HasOnlyHeld, IsAside, IsGoodFor}
-use Rattle.tc_combiner.specs.Walks.{Moves, Owned, packed, Asks, Acts, Adds, LooksEachTime}
+use Rattle.tc_combiner.specs.Walks.{Moves, Owned, packed, Asks, Acts, Adds, IsAtHall, LooksEachTime}
 use Rattle.tc_combiner.specs.Answers.{AcquiredAs, HasReadied, carried}
 use Rattle.tc_combiner.specs.Release.{UnlockedAs, turn_of, AreSameSeats, EndedAs, SeatsLeft}
+use Rattle.tc_combiner.specs.Stances.{IfRuns, KnowsLines, WasReady}
 use Rattle.tc_combiner.specs.Change.{change}
 use Rattle.tc_combiner.specs.Steps.{at_lock, by_desk}
 use Rattle.tc_combiner.specs.View.{BenchView, DeskView, FitsBench, seat_at}
@@ -12,6 +13,15 @@ use Rattle.tc_combiner.specs.View.{BenchView, DeskView, FitsBench, seat_at}
 -- the package is current at the desk, apart from the one that is set aside
 abbrev pub IsInHand : DeskView → PackageView → Type 0
 IsInHand d q = Owned d.pass.knows (Pack q ∷ packed d.aside)
+
+-- the same of the parts of a desk, whose pass stands at the lines as the two show
+pub record HasInHand (hall : HallView) (q : PackageView) (h : DeskParts) : Type 0 where
+  pub at : IsAtHall hall (Pack q ∷ packed h.aside) h
+  pub lines : KnowsLines hall.terms h.pass.knows (Pack q ∷ packed h.aside)
+
+-- after an answer it stands as what is in hand then and what is set aside show, unless the run was stopped
+abbrev pub StandsAfter : HallTerms → Knows → Option PackageView → Settled → Type 0
+StandsAfter k v aside r = IfRuns r (KnowsLines k v (carried r ++ packed aside))
 
 -- a desk keeps its pass, its clock, and its places for sleepers
 pub record Works (d e : DeskView) : Type 0 where
@@ -28,6 +38,7 @@ pub record Keeps (b : BenchView) (q : PackageView) (d e : DeskView) (r : Settled
   pub works : Works d e
   pub moves : Moves d.pass.knows e.pass.knows (Pack q ∷ packed d.aside) (carried r ++ packed e.aside)
   pub readied : TellsReady b.hall.terms r d e
+  pub lines : StandsAfter b.hall.terms e.pass.knows e.aside r
   pub fits : FitsBench b e
 
 -- the same for the parts of a desk
@@ -35,6 +46,7 @@ pub record KeepsParts (k : HallTerms) (q : PackageView) (d e : DeskView) (r : Se
   pub calls : List PassCall
   pub acts : Acts calls (Pack q ∷ packed d.aside) (carried r ++ packed e.aside) d.pass e.pass
   pub readied : HasReadied (threads k) r [] e.handed calls
+  pub lines : StandsAfter k e.pass.knows e.aside r
   pub aside : (c : PackageView) → e.aside ≡ Some c → IsAside k c
   pub seats : AreSameSeats d.seats e.seats
   pub clock : e.now ≡ d.now
@@ -42,8 +54,9 @@ pub record KeepsParts (k : HallTerms) (q : PackageView) (d e : DeskView) (r : Se
 
 -- a block made the package of the desk's current one, the batch rule allows it the desk's worker, and it
 -- follows the block by which that worker handed the lock over; after a cut, worker and thread go on together
-pub record MayCommit (d : DeskView) (q : PackageView) : Type 0 where
+pub record MayCommit (k : HallTerms) (d : DeskView) (q : PackageView) : Type 0 where
   pub before : PackageView
+  pub ready : WasReady k d.pass.knows before (packed d.aside)
   pub hand : IsInHand d before
   pub ran : DidRun d.pass.knows.image before q
   pub allows : AllowsPending q d.pass.knows.worker
@@ -53,6 +66,11 @@ pub record MayCommit (d : DeskView) (q : PackageView) : Type 0 where
 -- once it is sealed: whoever had the old package out has the sealed one out, and what else is out is unchanged
 abbrev pub MovesSealed : PackageView → PackageView → DeskView → DeskView → Type 0
 MovesSealed q sealed d e = (p : PackageView) → DidRun d.pass.knows.image p q → Moves d.pass.knows e.pass.knows (Pack p ∷ []) (Pack sealed ∷ [])
+
+-- and the pass stands as it shows
+pub record KeepsSealed (k : HallTerms) (q sealed : PackageView) (d e : DeskView) : Type 0 where
+  pub moves : MovesSealed q sealed d e
+  pub lines : KnowsLines k e.pass.knows (Pack sealed ∷ packed e.aside)
 
 -- a package that wants a lock, and has nothing granted and no lock except held ones
 pub record MayAcquire (image : Shown) (q : PackageView) : Type 0 where

@@ -1,6 +1,7 @@
 -- What some calls of a pass and of a seat did, one by one, and how what is out changed; and what a desk may do.
 use Rattle.std.specs.Prelude.{◌≡◌, ◌+◌, ℕ, List, [], ◌∷◌, ◌++◌, Option, Some, None, ◌==◌, ◌<◌, ◌≤◌, Bool, true, false, All, length, filter}
-use Rattle.tc_combiner.specs.Vocabulary.{Asked, Attempt, Called, Came, Found, HallView, DeskParts, IsAtRest, IsInOrder, IsInRange, IsOut, IsSamePass, IsTurn, Item, Knows, Leave, Left, Line, LineCall, LockView, Loose, MAX_HELD, Miss, Next, Find_stopped, Next_asked, Next_is, Nobody, Nobody_asked, Outs, Pack, PackageView, PassView, Place, Put, Ready, Refused, EndsSection, SeatView, Stop, Stopped, HallTerms, Try_stopped, Turn, Unlinked, code_of, erase, fits_of, is_pinned, locks, outs, threads}
+use Rattle.tc_combiner.specs.Vocabulary.{Asked, Attempt, Called, Came, Found, HallView, DeskParts, IsAtRest, IsInOrder, IsInRange, IsOut, IsSamePass, IsTurn, Item, Knows, Leave, Left, Line, LineCall, LockView, Loose, MAX_HELD, Miss, Next, Find_stopped, Next_asked}
+use Rattle.tc_combiner.specs.Vocabulary.{Next_is, Nobody, Nobody_asked, Outs, Pack, PackageView, PassView, Place, Put, Ready, Refused, EndsSection, SeatView, Stop, Stopped, HallTerms, Try_stopped, Turn, Unlinked, code_of, erase, fits_of, is_pinned, locks, outs, threads}
 use Rattle.tc_combiner.specs.Vocabulary.{Claim, Commit, PassCall, Take}
 use Rattle.tc_combiner.specs.Change.{Change, change}
 use Rattle.tc_combiner.specs.Packages.{IsAside}
@@ -85,9 +86,9 @@ Owned v xs = (b : Outs) × Owns b (outs v) xs
 abbrev pub counts : PassCall → Bool
 counts (Stopped x) = x == 1
 counts (Line i c) = false
-counts (Claim t place) = false
+counts (Claim t place numbers given turns kind) = false
 counts (Take i) = false
-counts (Commit t stamp) = false
+counts (Commit t b) = false
 counts c = true
 
 -- how many of these calls are checks of STOP

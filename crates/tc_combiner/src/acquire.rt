@@ -1,16 +1,18 @@
 //! What `acquire` does, and how packages are put back when the run was stopped.
 
-ghost use Rattle.std.specs.Prelude.{◌≡◌, ◌<◌, [], ◌∷◌};
+ghost use Rattle.std.specs.Prelude.{◌≡◌, ◌<◌, [], ◌∷◌, ◌++◌, None};
 ghost use Rattle.tc_turn.specs.Turn.{is_running};
 ghost use Rattle.tc_hall.specs.Rule.{threads};
-ghost use Rattle.tc_hall.specs.Steps.{put_call};
+ghost use Rattle.tc_hall.specs.Standing.{turn_by};
+ghost use Rattle.tc_hall.specs.Steps.{HasStop, put_call};
 ghost use Rattle.tc_hall.specs.Outs.{Pack};
 ghost use Rattle.tc_combiner.specs.Packages.{IsPlain};
 ghost use Rattle.tc_combiner.specs.Walks.{packed, Acts, IsAtHall};
-ghost use Rattle.tc_combiner.specs.Answers.{Acquires, BeginsAs, DidFirst, MayAsk, MayPutBack};
+ghost use Rattle.tc_combiner.specs.Answers.{Acquires, BeginsAs, DidFirst, MayAsk, MayPutBack, carried};
 ghost use Rattle.tc_combiner.specs.Answers.{PutAllBack, place_back, MayGetFirst, next_turn};
 ghost use Rattle.tc_queue.specs.Lines.{Enter, Entered};
 ghost use Rattle.tc_combiner.specs.Change.{change};
+ghost use Rattle.tc_combiner.specs.Stances.{EnteredAs, IfGot, IfRuns, KnowsLines};
 ghost use Rattle.tc_combiner.specs.View.{IsSeatFor};
 
 use crate::calls;
@@ -36,7 +38,8 @@ fn is_running(package: &Package) -> bool
 
 /// Puts a package back, as ready or, if its thread has ended, as done.
 fn put_back(hall: &Hall, pass: &mut Pass, package: Package)
-    requires { MayPutBack hall.now pass.old «package» }
+    requires may { MayPutBack hall.now pass.old «package» }
+    requires stop { HasStop pass.old.knows }
     ensures { Acts (put_call «package» (place_back «package») ∷ []) (Pack «package» ∷ []) []
         pass.old pass.new }
 {
@@ -51,6 +54,7 @@ fn put_back(hall: &Hall, pass: &mut Pass, package: Package)
 pub(crate) fn put_all_back(hall: &Hall, parts: &mut DeskParts, package: Package)
     requires parts { IsAtHall hall.now (Pack «package» ∷ packed parts.old.aside) parts.old }
     requires plain { IsPlain (threads hall.now.terms) «package» }
+    requires stop { HasStop parts.old.pass.knows }
     ensures { PutAllBack «package» (change parts.old parts.new) }
 {
     parts.ready.clear();
@@ -73,7 +77,11 @@ fn acquire_first<R: Wait>(
 ) -> Option<Package>
     requires parts { IsAtHall hall.now (Pack «package» ∷ packed parts.old.aside) parts.old }
     requires may { MayGetFirst hall.now.terms lock number «package» }
-    ensures { DidFirst hall.now.terms lock number «package» (change parts.old parts.new) result }
+    requires lines { EnteredAs hall.now.terms parts.old.pass.knows lock
+        (turn_by «package».context.thread number) None (Pack «package» ∷ packed parts.old.aside) }
+    ensures first { DidFirst hall.now.terms lock number «package» (change parts.old parts.new) result }
+    ensures lines { IfGot result (λ r. KnowsLines hall.now.terms parts.new.pass.knows
+        (Pack r ∷ packed parts.new.aside)) }
 {
     match await_lock(rt, hall, &mut parts.pass, lock) {
         Some(state) => {
@@ -99,8 +107,10 @@ pub(crate) fn acquire_with<R: Wait, Q: Order>(
     mut package: Package,
     lock: u32,
 ) -> Settled
-    requires line { Q.fits queue.now hall.now }
+    requires line { Q.fits queue.now hall.now × Q.of queue.now lock }
     requires parts { IsAtHall hall.now (Pack «package» ∷ packed parts.old.aside) parts.old }
+    requires lines { KnowsLines hall.now.terms parts.old.pass.knows
+        (Pack «package» ∷ packed parts.old.aside) }
     requires may { MayAsk hall.now.terms lock «package» }
     requires seat { IsSeatFor (threads hall.now.terms) (Q.queue queue.now) (Q.seen seat.old) }
     ensures acquired { Acquires hall.now.terms lock «package»
@@ -108,6 +118,8 @@ pub(crate) fn acquire_with<R: Wait, Q: Order>(
     // So it enters before it takes the lock: both are told to the pass.
     ensures enters { (a : Entered) × BeginsAs (Q.notes queue.now (Enter (next_turn «package») a))
         parts.old.pass parts.new.pass }
+    ensures lines { IfRuns result (KnowsLines hall.now.terms parts.new.pass.knows
+        (carried result ++ packed parts.new.aside)) }
 {
     package.keeps();
     let own = Turn {

@@ -1,18 +1,21 @@
 //! Desks (per-worker combiners) and benches (what they share).
 
-ghost use Rattle.std.specs.Prelude.{ℕ, ◌≡◌, ◌<◌, ◌≤◌, ◌+◌, ◌-◌, ◌^◌, [], None, Some, min, length, map};
+ghost use Rattle.std.specs.Prelude.{ℕ, ◌≡◌, ◌<◌, ◌≤◌, ◌+◌, ◌-◌, ◌^◌, [], ◌∷◌, None, Some, min, length, map};
 ghost use Rattle.std.specs.Borrow.{Lends, sem};
 ghost use Rattle.tc_isa.specs.declared.limits.TheConstants.{MAX_HELD};
 ghost use Rattle.tc_context.specs.View.{with_seal};
 ghost use Rattle.tc_hall.specs.contracts.pass.Pass.{the_row as pass_row};
 ghost use Rattle.tc_park.specs.contracts.sleepers.Sleepers.{the_row as sleepers_row};
 ghost use Rattle.tc_combiner.specs.contracts.desk.Desk.{the_row};
+ghost use Rattle.tc_hall.specs.Outs.{Pack};
 ghost use Rattle.tc_hall.specs.Steps.{DidSeal, IsSamePass};
 ghost use Rattle.tc_combiner.specs.Answers.{EntersFirst, next_turn};
 ghost use Rattle.tc_combiner.specs.Packages.{Wants};
+ghost use Rattle.tc_combiner.specs.Stances.{KnowsLines};
 ghost use Rattle.tc_combiner.specs.View.{FitsBench, desk_of};
+ghost use Rattle.tc_combiner.specs.Walks.{packed};
 ghost use Rattle.tc_combiner.specs.Settling.{HasAcquired, HasSettled, IfWants, IsInHand, Keeps};
-ghost use Rattle.tc_combiner.specs.Settling.{MayAcquire, MayCommit, MaySettle, MovesSealed};
+ghost use Rattle.tc_combiner.specs.Settling.{KeepsSealed, MayAcquire, MayCommit, MaySettle};
 
 use crate::parts::{DeskParts, Shared, Sleeping};
 use crate::ready::ReadyList;
@@ -121,9 +124,9 @@ impl<Q: Order> Desk<Q> {
     /// saturates at the greatest u64.
     pub fn commit(&mut self, bench: &Bench<'_, Q>, package: &mut Package) -> u64
         requires fits { FitsBench bench.now self.old }
-        requires may { MayCommit self.old «package».old }
+        requires may { MayCommit bench.now.hall.terms self.old «package».old }
         ensures same { IsSamePass self.old.pass self.new.pass }
-        ensures moves { MovesSealed «package».old «package».new self.old self.new }
+        ensures keeps { KeepsSealed bench.now.hall.terms «package».old «package».new self.old self.new }
         ensures sealed { DidSeal «package».old result self.old.pass.knows self.new.pass.knows }
         ensures context { «package».new
             ≡ with_seal result self.old.pass.knows.worker «package».old }
@@ -143,6 +146,8 @@ impl<Q: Order> Desk<Q> {
     pub fn acquire<R: Wait>(&mut self, rt: &R, bench: &Bench<'_, Q>, package: Package) -> Settled
         requires fits { FitsBench bench.now self.old }
         requires hand { IsInHand self.old «package» }
+        requires knows { KnowsLines bench.now.hall.terms self.old.pass.knows
+            (Pack «package» ∷ packed self.old.aside) }
         requires may { MayAcquire bench.now.image «package» }
         ensures keeps { Keeps bench.now «package» self.old self.new result }
         ensures acquired { HasAcquired «package» self.old self.new result }
@@ -167,6 +172,8 @@ impl<Q: Order> Desk<Q> {
     ) -> Settled
         requires fits { FitsBench bench.now self.old }
         requires hand { IsInHand self.old «package» }
+        requires knows { KnowsLines bench.now.hall.terms self.old.pass.knows
+            (Pack «package» ∷ packed self.old.aside) }
         requires may { MayAcquire bench.now.image «package» }
         requires wants { Wants «package» lock }
         ensures keeps { Keeps bench.now «package» self.old self.new result }
@@ -202,6 +209,8 @@ impl<Q: Order> Desk<Q> {
     ) -> Settled
         requires fits { FitsBench bench.now self.old }
         requires hand { IsInHand self.old «package» }
+        requires knows { KnowsLines bench.now.hall.terms self.old.pass.knows
+            (Pack «package» ∷ packed self.old.aside) }
         requires may { MaySettle bench.now.image self.old.pass.knows.worker end «package» }
         ensures keeps { Keeps bench.now «package» self.old self.new result }
         ensures settled { HasSettled end «package» self.old self.new result }

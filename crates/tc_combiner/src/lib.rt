@@ -18,9 +18,11 @@
 //!   its current package, and what changed at the seats and set aside; the files below say of such
 //!   a step what became of packages and locks. `specs/Walks.antt`: what some calls of a pass and of
 //!   a seat did, one by one, and what a desk may do. `specs/Packages.antt`: what is required and
-//!   said of packages. `specs/Answers.antt`: what became of a package that wants a lock, and of one
-//!   that is put back. `specs/Release.antt`: what became of a released lock, and of all locks of a
-//!   thread that ended. `specs/Settling.antt`: all of it by the end of the block.
+//!   said of packages. `specs/Stances.antt`: how the pass stands at the lines of the locks, in a hall
+//!   with lines: as the packages in hand show. `specs/Answers.antt`: what became of a package that
+//!   wants a lock, and of one that is put back. `specs/Release.antt`: what became of a released lock,
+//!   and of all locks of a thread that ended. `specs/Settling.antt`: all of it by the end of the
+//!   block.
 //!   `specs/Ties.antt`: the tail of a queue simulates the queue of the abstract machine;
 //!   `specs/Tails.antt`: the same over a whole order of calls and events. `specs/Vocabulary.antt`:
 //!   definitions of the layers below that these use.

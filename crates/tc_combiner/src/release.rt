@@ -1,12 +1,15 @@
 //! What becomes of a released lock.
 
-ghost use Rattle.std.specs.Prelude.{◌≡◌, ◌≢◌, ◌<◌, [], ◌∷◌, Some};
+ghost use Rattle.std.specs.Prelude.{ℕ, ◌≡◌, ◌≢◌, ◌<◌, [], ◌∷◌, Some, true};
 ghost use Rattle.tc_context.specs.View.{PackageView};
 ghost use Rattle.tc_hall.specs.Rule.{threads};
+ghost use Rattle.tc_queue.specs.declared.turn.Turn.{Turn};
+ghost use Rattle.tc_hall.specs.Standing.{turns_of};
 ghost use Rattle.tc_hall.specs.Outs.{outs, Pack, Loose};
 ghost use Rattle.tc_combiner.specs.Packages.{IsWaiter};
 ghost use Rattle.tc_combiner.specs.Release.{DidGrantNext, DidPass, MayGrantNext, MayPassOn};
 ghost use Rattle.tc_combiner.specs.Change.{change};
+ghost use Rattle.tc_combiner.specs.Stances.{FollowedBy, GrantsSo, KnowsLines, PassedSo, SameTurns};
 ghost use Rattle.tc_combiner.specs.View.{IsSeatFor};
 
 use crate::calls;
@@ -36,8 +39,14 @@ fn grant_to(
     requires may { MayGrantNext hall.now state block.now next (Pack waiter ∷ Loose state ∷ []) parts.old }
     requires waiter { IsWaiter next.thread state.number hall.now.terms.image.value waiter }
     requires other { block.now.thread ≢ next.thread }
-    ensures { DidGrantNext hall.now.terms state block.now next
+    requires lines { (q : PackageView) × (q.context.thread ≡ block.now.thread)
+        × GrantsSo hall.now.terms parts.old.pass.knows state next waiter q }
+    ensures granted { DidGrantNext hall.now.terms state block.now next
         (Pack waiter ∷ Loose state ∷ []) (change parts.old parts.new) result }
+    ensures lines { (q : PackageView) → q.context.thread ≡ block.now.thread
+        → GrantsSo hall.now.terms parts.old.pass.knows state next waiter q
+        → PassedSo hall.now.terms parts.new.pass.knows (Pack q ∷ []) result }
+    ensures turns { (t : ℕ) → turns_of t parts.new.pass.knows.calls ≡ turns_of t parts.old.pass.knows.calls }
 {
     let lock = state.number();
     if let Next::Adopt = plan(block, lock, state.run(), state.limit(), true) {
@@ -62,8 +71,14 @@ fn grant_next<R: Wait>(
     requires may { MayGrantNext hall.now state block.now next (Loose state ∷ []) parts.old }
     requires beside { (q : PackageView)
         × ((outs parts.old.pass.knows).context block.now.thread ≡ Some q) }
-    ensures { DidGrantNext hall.now.terms state block.now next
+    requires lines { (q : PackageView) × (own : Turn) × (q.context.thread ≡ block.now.thread)
+        × FollowedBy hall.now.terms parts.old.pass.knows state.number own next q }
+    ensures granted { DidGrantNext hall.now.terms state block.now next
         (Loose state ∷ []) (change parts.old parts.new) result }
+    ensures lines { (q : PackageView) (own : Turn) → q.context.thread ≡ block.now.thread
+        → FollowedBy hall.now.terms parts.old.pass.knows state.number own next q
+        → PassedSo hall.now.terms parts.new.pass.knows (Pack q ∷ []) result }
+    ensures turns { hall.now.terms.lined ≡ true → SameTurns parts.old.pass.knows parts.new.pass.knows }
 {
     let lock = state.number();
     match await_package(rt, hall, &mut parts.pass, next.thread, lock) {
@@ -85,12 +100,15 @@ pub(crate) fn pass_on<R: Wait, Q: Order>(
     package: &mut Package,
     released: Released<'_>,
 ) -> Passed
-    requires line { Q.fits queue.now hall.now }
+    requires line { Q.fits queue.now hall.now × Q.of queue.now released.lock }
     requires may { MayPassOn hall.now released.lock released.block.now «package».old parts.old }
     requires seat { IsSeatFor (threads hall.now.terms) (Q.queue queue.now) (Q.seen seat.old) }
-    ensures { DidPass hall.now.terms released.entry.lock released.entry.block.now
+    requires lines { KnowsLines hall.now.terms parts.old.pass.knows (Pack «package».old ∷ []) }
+    ensures passed { DidPass hall.now.terms released.entry.lock released.entry.block.now
         (change «package».old «package».new) (change (Q.seen seat.old) (Q.seen seat.new))
         (change parts.old parts.new) result }
+    ensures lines { PassedSo hall.now.terms parts.new.pass.knows (Pack «package».new ∷ []) result }
+    ensures turns { hall.now.terms.lined ≡ true → SameTurns parts.old.pass.knows parts.new.pass.knows }
 {
     package.keeps();
     let own = Turn {

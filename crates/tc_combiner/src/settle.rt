@@ -1,15 +1,16 @@
 //! What `settle` does, by the end of the block, over the parts of a desk.
 
-ghost use Rattle.std.specs.Prelude.{All, ◌≤◌, ◌∷◌, length, map};
+ghost use Rattle.std.specs.Prelude.{All, ◌≤◌, ◌∷◌, ◌++◌, length, map};
 ghost use Rattle.tc_hall.specs.Outs.{Pack};
 ghost use Rattle.tc_hall.specs.Rule.{threads};
 ghost use Rattle.tc_order.specs.Order.{AreInOrder};
 ghost use Rattle.tc_combiner.specs.Walks.{packed, IsAtHall, MayAct};
-ghost use Rattle.tc_combiner.specs.Answers.{Acquires, EntersFirst, MayAsk, next_turn};
+ghost use Rattle.tc_combiner.specs.Answers.{Acquires, EntersFirst, MayAsk, carried, next_turn};
 ghost use Rattle.tc_combiner.specs.Release.{AtSeat, MayUnlock, Unlocks};
 ghost use Rattle.tc_combiner.specs.Change.{change};
+ghost use Rattle.tc_combiner.specs.Stances.{IfRuns, KnowsLines};
 ghost use Rattle.tc_combiner.specs.View.{desk_with, HasSeats};
-ghost use Rattle.tc_combiner.specs.Settling.{HasSettled, IfWants, KeepsParts, MaySettle};
+ghost use Rattle.tc_combiner.specs.Settling.{HasInHand, HasSettled, IfWants, KeepsParts, MaySettle};
 
 use crate::acquire::acquire_with;
 use crate::ends::{ended_with, park};
@@ -33,16 +34,20 @@ pub(crate) fn acquire_at<R: Wait, Q: Order>(
     package: Package,
     lock: u32,
 ) -> Settled
-    requires lines { All (λ q. Q.fits q shared.now.hall.now) shared.now.queues.now }
+    requires lines { All (λ q. Q.fits q shared.now.hall.now) shared.now.queues.now
+        × AreInOrder Q.of shared.now.queues.now }
     requires parts { IsAtHall shared.now.hall.now (Pack «package» ∷ packed parts.old.aside) parts.old }
     requires may { MayAsk shared.now.hall.now.terms lock «package» }
-    requires order { AreInOrder Q.of shared.now.queues.now }
+    requires knows { KnowsLines shared.now.hall.now.terms parts.old.pass.knows
+        (Pack «package» ∷ packed parts.old.aside) }
     requires seats { HasSeats Q.queue Q.seen shared.now.hall.now.terms shared.now.queues.now seats.old }
     ensures acquired { AtSeat lock (map Q.seen seats.old) (map Q.seen seats.new)
         (λ s t. Acquires shared.now.hall.now.terms lock «package»
         (change s t) (change parts.old parts.new) result) }
     ensures enters { EntersFirst (λ q. Q.fits q shared.now.hall.now × Q.of q lock) Q.notes
         (next_turn «package») parts.old.pass parts.new.pass }
+    ensures knows { IfRuns result (KnowsLines shared.now.hall.now.terms parts.new.pass.knows
+        (carried result ++ packed parts.new.aside)) }
 {
     let queue = &shared.queues[lock as usize];
     let seat = &mut seats[lock as usize];
@@ -62,10 +67,15 @@ fn unlocked_at<R: Wait, Q: Order>(
     requires lines { All (λ q. Q.fits q shared.now.hall.now) shared.now.queues.now }
     requires parts { MayAct shared.now.hall.now (Pack «package» ∷ packed parts.old.aside) 2 parts.old }
     requires may { MayUnlock shared.now.hall.now.terms parts.old.pass.knows lock block «package» }
+    requires knows { KnowsLines shared.now.hall.now.terms parts.old.pass.knows
+        (Pack «package» ∷ packed parts.old.aside) }
+    requires order { AreInOrder Q.of shared.now.queues.now }
     requires seats { HasSeats Q.queue Q.seen shared.now.hall.now.terms shared.now.queues.now seats.old }
-    ensures { AtSeat lock (map Q.seen seats.old) (map Q.seen seats.new)
+    ensures unlocks { AtSeat lock (map Q.seen seats.old) (map Q.seen seats.new)
         (λ s t. Unlocks shared.now.hall.now.terms lock block «package»
         (change s t) (change parts.old parts.new) result) }
+    ensures knows { IfRuns result (KnowsLines shared.now.hall.now.terms parts.new.pass.knows
+        (carried result ++ packed parts.new.aside)) }
 {
     let queue = &shared.queues[lock as usize];
     let seat = &mut seats[lock as usize];
@@ -91,10 +101,10 @@ pub(crate) fn settle_with<R: Wait, Q: Order>(
     package: Package,
     end: End,
 ) -> Settled
-    requires lines { All (λ q. Q.fits q shared.now.hall.now) shared.now.queues.now }
-    requires parts { IsAtHall shared.now.hall.now (Pack «package» ∷ packed parts.old.aside) parts.old }
+    requires lines { All (λ q. Q.fits q shared.now.hall.now) shared.now.queues.now
+        × AreInOrder Q.of shared.now.queues.now }
+    requires parts { HasInHand shared.now.hall.now «package» parts.old }
     requires seats { HasSeats Q.queue Q.seen shared.now.hall.now.terms shared.now.queues.now seats.old }
-    requires order { AreInOrder Q.of shared.now.queues.now }
     requires room { threads shared.now.hall.now.terms ≤ length sleeping.old.sleepers }
     requires may { MaySettle shared.now.hall.now.terms.image.value parts.old.pass.knows.worker end «package» }
     ensures keeps { KeepsParts shared.now.hall.now.terms «package»

@@ -1,11 +1,13 @@
 //! What `settle` does after an unlock.
 
-ghost use Rattle.std.specs.Prelude.{◌≡◌, ◌∷◌, true, false};
+ghost use Rattle.std.specs.Prelude.{◌≡◌, ◌≢◌, ◌∷◌, ◌++◌, true, false};
 ghost use Rattle.tc_hall.specs.Rule.{threads};
 ghost use Rattle.tc_hall.specs.Outs.{Pack};
 ghost use Rattle.tc_combiner.specs.Packages.{HoldsNone, IsAside, MayGoOn};
 ghost use Rattle.tc_combiner.specs.Walks.{packed, MayAct};
-ghost use Rattle.tc_combiner.specs.Answers.{Goes, PutsAside};
+ghost use Rattle.tc_context.specs.View.{PackageView};
+ghost use Rattle.tc_combiner.specs.Answers.{Goes, PutsAside, carried};
+ghost use Rattle.tc_combiner.specs.Stances.{IfRuns, KnowsLines};
 ghost use Rattle.tc_combiner.specs.Release.{MayUnlock, Unlocks};
 ghost use Rattle.tc_combiner.specs.Change.{change};
 ghost use Rattle.tc_combiner.specs.View.{IsSeatFor};
@@ -36,7 +38,11 @@ fn holds_none(package: &Package) -> bool
 fn resume(hall: &Hall, parts: &mut DeskParts, package: Package) -> Settled
     requires parts { MayAct hall.now (Pack «package» ∷ packed parts.old.aside) 1 parts.old }
     requires may { MayGoOn hall.now.terms «package» }
-    ensures { Goes hall.now.terms «package» (change parts.old parts.new) result }
+    requires lines { KnowsLines hall.now.terms parts.old.pass.knows
+        (Pack «package» ∷ packed parts.old.aside) }
+    ensures lines { IfRuns result (KnowsLines hall.now.terms parts.new.pass.knows
+        (carried result ++ packed parts.new.aside)) }
+    ensures goes { Goes hall.now.terms «package» (change parts.old parts.new) result }
 {
     if !holds_none(&package) {
         return Settled::GoesOn(package);
@@ -55,7 +61,12 @@ fn resume(hall: &Hall, parts: &mut DeskParts, package: Package) -> Settled
 fn set_aside(hall: &Hall, parts: &mut DeskParts, package: Package)
     requires parts { MayAct hall.now (Pack «package» ∷ packed parts.old.aside) 1 parts.old }
     requires may { IsAside hall.now.terms «package» }
-    ensures { PutsAside hall.now.terms «package» (change parts.old parts.new) }
+    requires lines { (q : PackageView) × KnowsLines hall.now.terms parts.old.pass.knows
+        (Pack q ∷ Pack «package» ∷ packed parts.old.aside) × (q.context.thread ≢ «package».context.thread) }
+    ensures lines { (q : PackageView) → KnowsLines hall.now.terms parts.old.pass.knows
+        (Pack q ∷ Pack «package» ∷ packed parts.old.aside) → q.context.thread ≢ «package».context.thread
+        → KnowsLines hall.now.terms parts.new.pass.knows (Pack q ∷ packed parts.new.aside) }
+    ensures set { PutsAside hall.now.terms «package» (change parts.old parts.new) }
 {
     if parts.aside.is_some() {
         parts.ready.push(package.thread());
@@ -75,12 +86,16 @@ pub(crate) fn unlocked_with<R: Wait, Q: Order>(
     mut package: Package,
     released: Released<'_>,
 ) -> Settled
-    requires line { Q.fits queue.now hall.now }
+    requires line { Q.fits queue.now hall.now × Q.of queue.now released.lock }
     requires parts { MayAct hall.now (Pack «package» ∷ packed parts.old.aside) 2 parts.old }
     requires may { MayUnlock hall.now.terms parts.old.pass.knows released.lock
         released.block.now «package» }
     requires seat { IsSeatFor (threads hall.now.terms) (Q.queue queue.now) (Q.seen seat.old) }
-    ensures { Unlocks hall.now.terms released.entry.lock released.entry.block.now «package»
+    requires lines { KnowsLines hall.now.terms parts.old.pass.knows
+        (Pack «package» ∷ packed parts.old.aside) }
+    ensures lines { IfRuns result (KnowsLines hall.now.terms parts.new.pass.knows
+        (carried result ++ packed parts.new.aside)) }
+    ensures unlocks { Unlocks hall.now.terms released.entry.lock released.entry.block.now «package»
         (change (Q.seen seat.old) (Q.seen seat.new)) (change parts.old parts.new) result }
 {
     package.keeps();

@@ -1,11 +1,18 @@
 //! The three waits of a desk, and one try of each. Each checks STOP after each failed try.
 
-ghost use Rattle.std.specs.Prelude.{ℕ, ◌≡◌, ◌<◌, ◌≤◌, [], ◌∷◌};
+ghost use Rattle.std.specs.Prelude.{ℕ, ◌≡◌, ◌+◌, ◌<◌, ◌≤◌, [], ◌∷◌, Some};
 ghost use Rattle.tc_hall.specs.Rule.{threads, locks};
 ghost use Rattle.tc_hall.specs.Outs.{Pack, Loose};
+ghost use Rattle.tc_hall.specs.Standing.{ClaimsAs, IfLined, StandsAs, TakesAs, loose};
+ghost use Rattle.tc_hall.specs.Steps.{claim_call};
+ghost use Rattle.tc_hall.specs.declared.board.PassCall.TheVariants.{Line, Take};
+ghost use Rattle.tc_hall.specs.declared.place.Place.TheVariants.{Waiting};
+ghost use Rattle.tc_hall.specs.declared.place.TheConstants.{WAITING};
+ghost use Rattle.tc_queue.specs.declared.turn.QueueCall.TheVariants.{Next as Own_next};
 ghost use Rattle.tc_queue.specs.Lines.{MayCall, Next, with_line};
 ghost use Rattle.tc_queue.specs.Words.{IsTurn};
 ghost use Rattle.tc_combiner.specs.Packages.{IsWaiter};
+ghost use Rattle.tc_combiner.specs.Stances.{AskedSo, FoundSo, TriedSo, WaitedSo};
 ghost use Rattle.tc_combiner.specs.Walks.{AskedAs, AskedTimes, Acts, Tried, FoundAs, LooksAfterFirst, IsTaken, TriedAs, WaitedAs, came_of, saw_at_stop};
 ghost use Rattle.tc_combiner.specs.declared.found.Asked.TheVariants.{Unlinked};
 
@@ -25,7 +32,9 @@ use tc_segment::state::LockState;
 fn try_take(hall: &Hall, pass: &mut Pass, lock: u32) -> Attempt<LockState>
     requires own { pass.old.table ≡ hall.now.table }
     requires place { lock < locks hall.now.terms }
-    ensures { TriedAs 1 (λ l. Loose l ∷ []) (IsTaken hall.now lock) pass.old pass.new result }
+    requires stands { IfLined hall.now.terms pass.old.knows (TakesAs pass.old.knows lock) }
+    ensures tried { TriedAs 1 (λ l. Loose l ∷ []) (IsTaken hall.now lock) pass.old pass.new result }
+    ensures so { TriedSo hall.now.terms (λ l. Take lock) pass.old.knows pass.new.knows result }
 {
     match hall.take(pass, lock) {
         Ok(state) => Attempt::Came(state),
@@ -42,7 +51,11 @@ fn try_take(hall: &Hall, pass: &mut Pass, lock: u32) -> Attempt<LockState>
 fn try_adopt(hall: &Hall, pass: &mut Pass, t: u32, lock: u32) -> Attempt<Package>
     requires own { pass.old.table ≡ hall.now.table }
     requires places { (t < threads hall.now.terms) × (lock < locks hall.now.terms) }
-    ensures { TriedAs 1 (λ q. Pack q ∷ []) (λ p q. IsWaiter t lock p.knows.image q) pass.old pass.new result }
+    requires stands { IfLined hall.now.terms pass.old.knows
+        (ClaimsAs pass.old.knows t (Waiting lock)) }
+    ensures tried { TriedAs 1 (λ q. Pack q ∷ []) (λ p q. IsWaiter t lock p.knows.image q) pass.old pass.new result }
+    ensures so { TriedSo hall.now.terms (λ q. claim_call pass.old.knows q (WAITING + lock))
+        pass.old.knows pass.new.knows result }
 {
     match hall.adopt(pass, t, lock) {
         Ok(waiter) => {
@@ -70,8 +83,12 @@ fn try_next<R: Wait, Q: Order>(
     requires line { Q.fits queue.now hall.now }
     requires own { pass.old.table ≡ hall.now.table }
     requires asks { MayCall (Q.queue queue.now) (Q.seen seat.old) own }
+    requires stands { (i : ℕ) → Q.of queue.now i → IfLined hall.now.terms pass.old.knows
+        (StandsAs pass.old.knows i (loose own)) }
     ensures line { Q.seen seat.new ≡ with_line (Q.seen seat.old) (Next own (came_of result)) }
     ensures tried { TriedAs 0 (λ u. []) (λ p u. IsTurn (Q.queue queue.now).threads u) pass.old pass.new result }
+    ensures so { (i : ℕ) → Q.of queue.now i → TriedSo hall.now.terms
+        (λ u. Line i (Own_next own (Some u))) pass.old.knows pass.new.knows result }
 {
     match queue.next(rt, hall, pass, seat, own) {
         Some(next) => Attempt::Came(next),
@@ -93,7 +110,9 @@ pub(crate) fn await_lock<R: Wait>(
 ) -> Option<LockState>
     requires own { pass.old.table ≡ hall.now.table }
     requires place { lock < locks hall.now.terms }
-    ensures { WaitedAs (λ l. Loose l ∷ []) (IsTaken hall.now lock) pass.old pass.new result }
+    requires stands { IfLined hall.now.terms pass.old.knows (TakesAs pass.old.knows lock) }
+    ensures waited { WaitedAs (λ l. Loose l ∷ []) (IsTaken hall.now lock) pass.old pass.new result }
+    ensures so { WaitedSo hall.now.terms (λ l. Take lock) pass.old.knows pass.new.knows result }
 {
     let pause = Backoff::new();
     for _ in rt.forever() {
@@ -116,7 +135,11 @@ pub(crate) fn await_package<R: Wait>(
 ) -> Option<Package>
     requires own { pass.old.table ≡ hall.now.table }
     requires places { (t < threads hall.now.terms) × (lock < locks hall.now.terms) }
-    ensures { WaitedAs (λ q. Pack q ∷ []) (λ p q. IsWaiter t lock p.knows.image q) pass.old pass.new result }
+    requires stands { IfLined hall.now.terms pass.old.knows
+        (ClaimsAs pass.old.knows t (Waiting lock)) }
+    ensures waited { WaitedAs (λ q. Pack q ∷ []) (λ p q. IsWaiter t lock p.knows.image q) pass.old pass.new result }
+    ensures so { WaitedSo hall.now.terms (λ q. claim_call pass.old.knows q (WAITING + lock))
+        pass.old.knows pass.new.knows result }
 {
     let pause = Backoff::new();
     for _ in rt.forever() {
@@ -140,10 +163,14 @@ fn ask<R: Wait, Q: Order>(
 ) -> Asked
     requires own { (pass.old.table ≡ hall.now.table) × Q.fits queue.now hall.now }
     requires asks { MayCall (Q.queue queue.now) (Q.seen seat.old) own }
+    requires stands { (i : ℕ) → Q.of queue.now i → IfLined hall.now.terms pass.old.knows
+        (StandsAs pass.old.knows i (loose own)) }
     ensures asked { AskedAs own (Q.seen seat.old) (Q.seen seat.new) result }
     ensures once { (n : ℕ) × AskedTimes n own (Q.seen seat.old) (Q.seen seat.new) × (n ≤ 1)
         × (result ≡ Unlinked → n ≡ 1) }
     ensures acts { Acts [] [] [] pass.old pass.new × Tried 0 0 pass.old.knows pass.new.knows }
+    ensures so { (i : ℕ) → Q.of queue.now i → AskedSo i own hall.now.terms
+        pass.old.knows pass.new.knows result }
 {
     if let Some(next) = queue.next(rt, hall, pass, seat, own) {
         return Asked::Next(next);
@@ -166,10 +193,14 @@ pub(crate) fn find_next<R: Wait, Q: Order>(
     requires line { Q.fits queue.now hall.now }
     requires own { pass.old.table ≡ hall.now.table }
     requires asks { MayCall (Q.queue queue.now) (Q.seen seat.old) own }
+    requires stands { (i : ℕ) → Q.of queue.now i → IfLined hall.now.terms pass.old.knows
+        (StandsAs pass.old.knows i (loose own)) }
     ensures acts { Acts (saw_at_stop result) [] [] pass.old pass.new }
     ensures found { FoundAs own (Q.seen seat.old) (Q.seen seat.new) result }
     ensures looks { LooksAfterFirst own (Q.seen seat.old) (Q.seen seat.new)
         pass.old.knows pass.new.knows }
+    ensures so { (i : ℕ) → Q.of queue.now i → FoundSo i own hall.now.terms
+        pass.old.knows pass.new.knows result }
 {
     match ask(rt, hall, pass, queue, seat, own) {
         Asked::Nobody => return Found::Nobody,

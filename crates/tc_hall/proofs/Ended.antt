@@ -1,5 +1,5 @@
 -- The packages and lock states of a hall that was closed.
-use Rattle.std.proofs.Common.{◌≡◌, ◌≢◌, ℕ, suc, ◌+◌, ◌<◌, Bool, false, List, [], ◌∷◌, ◌++◌, length, map, get_or, set, sym, refl, ap, ◌∙◌, subst, ⊎_elim, arith, Option, Some, None, length-append, get_or-set_other, get_or-set_same}
+use Rattle.std.proofs.Common.{◌≡◌, ◌≢◌, ℕ, ◌+◌, ◌<◌, Bool, false, List, [], ◌∷◌, ◌++◌, length, map, get_or, set, sym, ap, ◌∙◌, subst, ⊎_elim, arith, Option, Some, None, length-append, get_or-set_other, get_or-set_same}
 use Rattle.tc_hall.proofs.Vocabulary.{AreTaken, Cargo, HasAll, HasSeenAll, IsEmptied, IsEnd, IsFree, IsLockHome, IsOrdered, KeptHall, Knows, Lawful, LiesLock, Lock, LockView, Package, PackageView, Spot, HallTerms, bare, get_elem?, home, inside, is_running, kept, length-map, locked_in, locks, out, some, some-injective, some-ne-none, threads}
 use mathlib.Core.Logic.{dite}
 use mathlib.Core.Option as maybe
@@ -8,19 +8,14 @@ use Rattle.atomic_table.specs.Table.{State, Final, Seen}
 use Rattle.atomic_table.proofs.Lists.{at_map}
 use Rattle.std.specs.Mem.Slots.Ownership.{Filled}
 use Rattle.tc_mutex_spec.proofs.ListLaws.{there}
+use Rattle.tc_hall.proofs.OneOrder.{same_list, unstopped_by, written}
 use Rattle.tc_hall.proofs.Ordering.{kept_of}
+use Rattle.tc_hall.proofs.Parts.{parts}
 use Rattle.tc_hall.specs.Steps.{IsPackage, IsLock}
 use Rattle.tc_hall.proofs.Moves.{home_of}
 use Rattle.tc_hall.proofs.Cases.{clash, same_package}
 use Rattle.tc_hall.proofs.Taking.{has_live}
 use Rattle.tc_lemmas.proofs.Lists.{at_end, something_at}
-
--- two lists of one length, each of whose places agree
-same_list : {A : Type 0} (xs ys : List A) → length xs ≡ length ys → ((t : ℕ) (a : A) → get_elem? xs t ≡ some a → get_elem? ys t ≡ some a) → xs ≡ ys
-same_list [] [] l e = refl
-same_list [] (y ∷ ys) l e = absurd (omega arith)
-same_list (x ∷ xs) [] l e = absurd (omega arith)
-same_list (x ∷ xs) (y ∷ ys) l e = let head : y ≡ x = some-injective y x (e 0 x refl) in let tail = same_list xs ys (omega arith) (λ t a h. e (suc t) a h) in cc (head, tail)
 
 module _ {A : Type 0} (wrap : A → Cargo) (off : ℕ) (slots : List (Option Cargo)) where
   pub taken_none : (qs : List A) → qs ≡ [] → AreTaken wrap off 0 slots qs
@@ -114,6 +109,15 @@ module _ (k : HallTerms) (id : ℕ) (v : Knows) (ws : List ℕ) (xs : List (Opti
             let slot = in_slot t place.0 place.1 in
             let both : slot.context ≡ q = pick (get_elem? xs t) slot.context q slot.at (at t q e) in
             subst (λ (z : PackageView). (is_running z.context.guest.status ≡ false) × ((i : ℕ) → locked_in z i ≡ None)) both slot.ended;
+        steps = record {
+          state = s;
+          ordered = final.1.0;
+          pass = id;
+          last = final.1.1;
+          noted = parts k s final.1.0 id v final.1.1 live;
+          written = written k s final.1.0 rule;
+          unstopped = unstopped_by k s final.1.0 rule id v final.1.1 live all;
+        };
       }
     where
       pick : (x : maybe.Option (Option Cargo)) (a b : PackageView) → x ≡ some (Some (Package a)) → x ≡ some (Some (Package b)) → a ≡ b

@@ -15,10 +15,14 @@ pub mod Opening
 pub mod Left
 pub mod Ordering
 pub mod Exact
-mod Words
+pub mod Words
 pub mod Parts
+pub mod Standing
+pub mod Stops
+pub mod Turns
 pub mod Stepping
 mod Lining
+pub mod OneOrder
 pub mod Ended
 pub mod Holding
 pub mod Putting

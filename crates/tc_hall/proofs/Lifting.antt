@@ -1,5 +1,5 @@
 -- A hall's order with the events of the lines is one list of events, by the tie of each step.
-use Rattle.std.proofs.Common.{◌≡◌, ℕ, zero, suc, ◌+◌, ◌-◌, ◌<◌, ◌≤◌, Bool, true, false, ◌==◌, List, [], ◌∷◌, ◌++◌, replicate, not, sym, refl, ap, ◌∙◌, subst, arith, Option, Some, None, slice_index, if◌then◌else◌}
+use Rattle.std.proofs.Common.{◌≡◌, ℕ, zero, suc, ◌+◌, ◌-◌, ◌<◌, ◌≤◌, Bool, true, false, ◌==◌, List, [], ◌∷◌, ◌++◌, replicate, not, sym, refl, ap, ◌∙◌, subst, arith, Option, Some, None, slice_index, if◌then◌else◌, eqb-true}
 use Rattle.tc_hall.proofs.Vocabulary.{AreEnabled, AreStocked, Cargo, Core, Custody, Event, Hall, IsFree, IsOpening, IsOrdered, KeptHall, Knows, Lock, LockAt, LockView, Look, Lying, MAX_GUARDS, MayDo, Operation, Package, PackageAt, PackageView, Ready, STOP, Shows, ShowsLock, ShowsThread, Stopped, HallTerms, after_events, after_miss, after_operation, claim, commit, free, get_elem?, in_slot, join}
 use Rattle.tc_hall.proofs.Vocabulary.{last_end, lay, line, line_word, words_of, lies_at, lock_in_package, lock_in_slot, lock_of, lock_with_pass, locked_in, locks, look, machine_limits, miss, none, opening, outline, place_shown, put, reach, slot_word, some, some-injective, some-ne-none, split, starting, stop, stopped, take, threads, with_call, with_custody, with_pass}
 use Rattle.std.specs.Cmp.Derive.{both_true}
@@ -21,7 +21,7 @@ use Rattle.tc_hall.proofs.Taking.{has_live}
 use Rattle.tc_hall.proofs.Shows.{shown_at, shown_code}
 use Rattle.tc_hall.proofs.Making.{clean_free}
 use Rattle.tc_hall.proofs.Cases.{clash, clash_at, same_package, same_lock}
-use Rattle.tc_hall.proofs.Outlines.{at_self, eq_from}
+use Rattle.tc_hall.proofs.Outlines.{at_self}
 use Rattle.tc_hall.proofs.Words.{line_behind}
 use Rattle.tc_hall.proofs.Tying.{line_shown, Moment, Asking, Showing, loose_it, claim_asking, claim_showing, put_asking, put_showing, take_asking, take_showing, free_asking, free_showing, found_shown, stop_shown, slot_moved, split_shown, join_shown}
 use Rattle.tc_hall.proofs.Committing.{commit_asking, commit_showing}
@@ -52,7 +52,7 @@ custody_shown k s c lock x same seen = record {
     lies i = by (i == lock) refl
       where
         by : (b : Bool) → (i == lock) ≡ b → (outline (with_custody c lock x)).lies i ≡ (outline c).lies i
-        by true e = ap (λ (z : Custody). lies_at c.course z.place) (ap (λ (z : Bool). if z then x else c.custody i) e) ∙ (ap (lies_at c.course) same ∙ ap (λ (z : ℕ). lies_at c.course (c.custody z).place) (sym (eq_from i lock e)))
+        by true e = ap (λ (z : Custody). lies_at c.course z.place) (ap (λ (z : Bool). if z then x else c.custody i) e) ∙ (ap (lies_at c.course) same ∙ ap (λ (z : ℕ). lies_at c.course (c.custody z).place) (sym (eqb-true i lock e)))
         by false e = ap (λ (z : Custody). lies_at c.course z.place) (ap (λ (z : Bool). if z then x else c.custody i) e)
 
 entered_shown : (k : HallTerms) (s : Hall) (c : Core) (w t lock : ℕ) → Shows k s c → Shows k s (effect k.image.value c (Enter w t lock))

@@ -11,6 +11,7 @@ use Rattle.tc_queue.specs.Asked.{Ask, answered, enter, link, next, leave}
 use Rattle.tc_queue.proofs.Packed.{turns_packed, word_without}
 use Rattle.tc_hall.specs.Lines.{IsAsked, MayStand, MayLinkAt}
 use Rattle.tc_hall.specs.Steps.{At, lined}
+use Rattle.tc_hall.specs.Standing.{IfLined, EntersAs, LinksAs, StandsAs, loose}
 use Rattle.tc_hall.proofs.Exact.{exact_words}
 use Rattle.tc_hall.proofs.Ordering.{kept_of}
 use Rattle.tc_hall.proofs.Ordering.{next as one_more}
@@ -47,46 +48,46 @@ module _ (k : HallTerms) (slots id i : ℕ) (v : Knows) (c : List (ℕ × Option
   abbrev pub Swaps : Turn → ℕ → ℕ → List (ℕ × Option Cargo) → Type 0
   Swaps u word left c = Allows (IsOrdered k) slots id (v, c) word (λ _. left) (lined (threads k) i (enter u) (step slots word left 0 none) (v, c))
 
-  pub swaps : (u : Turn) (word left : ℕ) → MayStand k i u → word ≡ tail_word_of k i → left ≡ turn_word u → Swaps u word left c
-  swaps u word left may at is = subst (λ (z : ℕ × ℕ). Swaps u z.0 z.1 c) (λ j. (sym at j, sym is j)) (subst (Swaps u (tail_word_of k i) (turn_word u)) (sym empty) (λ s d deep at small.
+  pub swaps : (u : Turn) (word left : ℕ) → MayStand k i u → IfLined k v (EntersAs v i u) → word ≡ tail_word_of k i → left ≡ turn_word u → Swaps u word left c
+  swaps u word left may stands at is = subst (λ (z : ℕ × ℕ). Swaps u z.0 z.1 c) (λ j. (sym at j, sym is j)) (subst (Swaps u (tail_word_of k i) (turn_word u)) (sym empty) (λ s d deep at small.
       let found : ℕ = slice_index s.words (tail_word_of k i) in (
         with_call v (Line i (answered (enter u) found)),
         keeps,
         tt,
-        one_more k s d id v (line i (answered (enter u) found)) at live (may.lined, may.lock, (may.turn, refl)),
+        one_more k s d id v (line i (answered (enter u) found)) at live (may.lined, may.lock, (may.turn, refl), stands),
         (refl, ((exact_words k s d).lines i may.lined may.lock).tail),
       )))
 
   abbrev pub Stores : Turn → Turn → ℕ → ℕ → List (ℕ × Option Cargo) → Type 0
   Stores b u word left c = Allows (IsOrdered k) slots id (v, c) word (λ _. left) (λ _. lined (threads k) i (link b u) (step slots word left 0 none) (v, c) left)
 
-  pub stores : (b u : Turn) (word left : ℕ) → MayLinkAt k v i b u → word ≡ link_word_of k i b.thread → left ≡ link_word (record { before = b.number; behind = u }) → Stores b u word left c
-  stores b u word left may at is = subst (λ (z : ℕ × ℕ). Stores b u z.0 z.1 c) (λ j. (sym at j, sym is j)) (subst (Stores b u (link_word_of k i b.thread) (link_word (record { before = b.number; behind = u }))) (sym empty) (λ s d deep at small. (
+  pub stores : (b u : Turn) (word left : ℕ) → MayLinkAt k v i b u → IfLined k v (LinksAs v i u) → word ≡ link_word_of k i b.thread → left ≡ link_word (record { before = b.number; behind = u }) → Stores b u word left c
+  stores b u word left may stands at is = subst (λ (z : ℕ × ℕ). Stores b u z.0 z.1 c) (λ j. (sym at j, sym is j)) (subst (Stores b u (link_word_of k i b.thread) (link_word (record { before = b.number; behind = u }))) (sym empty) (λ s d deep at small. (
     with_call v (Line i (Link b u)),
     keeps,
     tt,
-    one_more k s d id v (line i (Link b u)) at live (may.may.lined, may.may.lock, (may.behind, may.may.turn, may.entered)),
+    one_more k s d id v (line i (Link b u)) at live (may.may.lined, may.may.lock, (may.behind, may.may.turn, may.entered), stands),
     (refl, tt),
   )))
 
   abbrev pub Loads : Turn → ℕ → List (ℕ × Option Cargo) → Type 0
   Loads u word c = Allows (IsOrdered k) slots id (v, c) word (λ n. n) (lined (threads k) i (next u) (step slots word 0 0 none) (v, c))
 
-  pub loads : (u : Turn) (word : ℕ) → MayStand k i u → word ≡ link_word_of k i u.thread → Loads u word c
-  loads u word may at = subst (λ (z : ℕ). Loads u z c) (sym at) (subst (Loads u (link_word_of k i u.thread)) (sym empty) (λ s d deep at small.
+  pub loads : (u : Turn) (word : ℕ) → MayStand k i u → IfLined k v (StandsAs v i (loose u)) → word ≡ link_word_of k i u.thread → Loads u word c
+  loads u word may stands at = subst (λ (z : ℕ). Loads u z c) (sym at) (subst (Loads u (link_word_of k i u.thread)) (sym empty) (λ s d deep at small.
       let found : ℕ = slice_index s.words (link_word_of k i u.thread) in (
         with_call v (Line i (answered (next u) found)),
         keeps,
         tt,
-        one_more k s d id v (line i (answered (next u) found)) at live (may.lined, may.lock, (may.turn, refl)),
+        one_more k s d id v (line i (answered (next u) found)) at live (may.lined, may.lock, (may.turn, refl), stands),
         (refl, ((exact_words k s d).lines i may.lined may.lock).links u.thread may.turn.thread),
       )))
 
   abbrev pub Clears : Turn → ℕ → ℕ → List (ℕ × Option Cargo) → Type 0
   Clears u word own c = Allows (IsOrdered k) slots id (v, c) word (λ x. either (x == own) 0 x) (lined (threads k) i (leave u) (step slots word own 0 none) (v, c))
 
-  pub clears : (u : Turn) (word own : ℕ) → MayStand k i u → word ≡ tail_word_of k i → own ≡ turn_word u → Clears u word own c
-  clears u word own may at is = subst (λ (z : ℕ × ℕ). Clears u z.0 z.1 c) (λ j. (sym at j, sym is j)) (subst (Clears u (tail_word_of k i) (turn_word u)) (sym empty) (λ s d deep at small.
+  pub clears : (u : Turn) (word own : ℕ) → MayStand k i u → IfLined k v (StandsAs v i (loose u)) → word ≡ tail_word_of k i → own ≡ turn_word u → Clears u word own c
+  clears u word own may stands at is = subst (λ (z : ℕ × ℕ). Clears u z.0 z.1 c) (λ j. (sym at j, sym is j)) (subst (Clears u (tail_word_of k i) (turn_word u)) (sym empty) (λ s d deep at small.
       let found : ℕ = slice_index s.words (tail_word_of k i) in
       let range = ((exact_words k s d).lines i may.lined may.lock).tail in
       let few = (kept_of k s d).told.limits.threads in
@@ -96,6 +97,6 @@ module _ (k : HallTerms) (slots id i : ℕ) (v : Knows) (c : List (ℕ × Option
         keeps,
         tt,
         subst (λ (z : ℕ). IsOrdered k (stepped s (tail_word_of k i) z id [] (with_call v (Line i (answered (leave u) found))) keeps)) (sym left)
-            (one_more k s d id v (line i (answered (leave u) found)) at live (may.lined, may.lock, (may.turn, refl))),
+            (one_more k s d id v (line i (answered (leave u) found)) at live (may.lined, may.lock, (may.turn, refl), stands)),
         (refl, range),
       )))

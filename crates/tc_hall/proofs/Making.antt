@@ -340,8 +340,8 @@ module _ (k : HallTerms) where
 
       told_true : (f : ℕ) (c : PassCall) → IsPass k.image.value k.workers r.told.history s.words w → get_elem? w.calls f ≡ some c → IsTrueCall (threads k) s.words c
       told_true f (Put t place numbers given turns) p e = tt
-      told_true f (Claim t place) p e = tt
-      told_true f (Commit t stamp) p e = tt
+      told_true f (Claim t place numbers given turns kind) p e = tt
+      told_true f (Commit t b) p e = tt
       told_true f (Take i) p e = tt
       told_true f (Free i) p e = tt
       told_true f (Line i d) p e = tt

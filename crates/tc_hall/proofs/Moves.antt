@@ -100,9 +100,9 @@ module _ (k : HallTerms) where
             (λ i. get_or-set_other s.words (slot_word t) (slot_word (threads k + i)) new 0 (λ e. omega arith)) t below h.slot free refl;
         passes = passes_stay k.image.value k.workers r.told.history r.told.history s.words ws' (λ b e. e) done stops s.views id w r.passes
             (pass_kept k.image.value k.workers r.told.history r.told.history s.words ws' (λ b e. e) done stops v w old (refl, refl, refl, length-set v.pinned q.context.thread (is_pinned q)) (λ i u e. inl e) (λ i b e. inl e)
-            (λ i c e. ⊎_elim (λ z. inl z) (λ (z : (i ≡ length v.calls) × (claim_call q word ≡ c)). inr (subst (IsTrueCall (threads k) ws') z.1 tt)) (at_end v.calls (claim_call q word) c i e))
+            (λ i c e. ⊎_elim (λ z. inl z) (λ (z : (i ≡ length v.calls) × (claim_call v q word ≡ c)). inr (subst (IsTrueCall (threads k) ws') z.1 tt)) (at_end v.calls (claim_call v q word) c i e))
             (λ u e. ⊎_elim (λ (o : (u ≡ q.context.thread) × (is_pinned q ≡ true)). inr (stops (h.fits.stop o.1))) (λ (o : (u ≢ q.context.thread) × (get_elem? v.pinned u ≡ some true)). inl o.1) (at_set v.pinned q.context.thread u (is_pinned q) true e)));
-        stop = λ e. stop_stays s.views id v w at (λ i h. (i, at_longer v.calls (claim_call q word ∷ []) i Stop h)) (r.stop (stops_back s.words (slot_word t) new (λ e. omega arith) e));
+        stop = λ e. stop_stays s.views id v w at (λ i h. (i, at_longer v.calls (claim_call v q word ∷ []) i Stop h)) (r.stop (stops_back s.words (slot_word t) new (λ e. omega arith) e));
         apart = apart_stays s.views id v w at record { worker = refl; maker = refl; made = refl; spent = refl; joined = refl } live r.apart;
         listed = listed_stays r.told.history s.views id v w at r.listed record { worker = refl; maker = refl; made = omega arith; spent = refl; joined = refl; sealed = refl };
       }

@@ -1,8 +1,7 @@
 -- What the events make of the outline of a core.
-use Rattle.std.proofs.Common.{◌≡◌, ◌≢◌, ℕ, ◌==◌, Bool, true, false, sym, refl, ap, ◌∙◌, subst, ⊎_elim, inl, inr, None}
+use Rattle.std.proofs.Common.{◌≡◌, ◌≢◌, ℕ, ◌==◌, Bool, true, false, sym, refl, ap, ◌∙◌, subst, ⊎_elim, None, ne_eqb, eqb-true}
 use Rattle.tc_hall.proofs.Vocabulary.{At, Core, Course, Custody, Granted, IsBetween, LockPlace, Loose, State, ThreadPlace, With, at_home, in_hand, is_loose, lies_at, lies_with, outline, packed, unowned, with_custody, with_place}
 use Rattle.std.specs.Prelude.{if◌then◌else◌}
-use Rattle.std.proofs.lemmas.Bool.Decides.{eqb_tells}
 use mathlib.Core.Logic.{dite}
 use native.Mathlib.Decide.{ℕ_discrete}
 use Rattle.tc_core.specs.Core.{is_at}
@@ -12,24 +11,18 @@ use Rattle.tc_hall.specs.Ties.{is_with}
 use Rattle.tc_hall.proofs.Shows.{IsMoved, home_packed, home_hand, hand_packed, same_packed}
 use Rattle.tc_lemmas.proofs.Tests.{true_or_false, eq_self}
 
-pub eq_false : (u t : ℕ) → u ≢ t → (u == t) ≡ false
-eq_false u t ne = elim (eqb_tells u t) [ inl h ↦ absurd (ne h.1) | inr h ↦ h.0 ]
-
-pub eq_from : (u t : ℕ) → (u == t) ≡ true → u ≡ t
-eq_from u t e = elim (eqb_tells u t) [ inl h ↦ h.1 | inr h ↦ absurd (let f = h.0 in cc) ]
-
 -- one of two by number
 pub if_here : {A : Type 0} (x y : A) (u t : ℕ) → u ≡ t → (if u == t then x else y) ≡ x
 if_here x y u t is = ap (λ (b : Bool). if b then x else y) (ap (λ (z : ℕ). z == t) is ∙ eq_self t)
 
 pub if_else : {A : Type 0} (x y : A) (u t : ℕ) → u ≢ t → (if u == t then x else y) ≡ y
-if_else x y u t ne = ap (λ (b : Bool). if b then x else y) (eq_false u t ne)
+if_else x y u t ne = ap (λ (b : Bool). if b then x else y) (ne_eqb u t ne)
 
 pub at_self : (p : ThreadPlace) (w : ℕ) → p ≡ At w → is_at p w ≡ true
 at_self p w e = ap (λ (z : ThreadPlace). is_at z w) e ∙ eq_self w
 
 pub loose_self : (p : LockPlace) (u w : ℕ) → is_loose p u ≡ true → (p ≡ Loose u)
-loose_self (Loose v) u w e = ap (λ (z : ℕ). Loose z) (eq_from v u e)
+loose_self (Loose v) u w e = ap (λ (z : ℕ). Loose z) (eqb-true v u e)
 loose_self place.Free u w e = absurd cc
 loose_self (With t) u w e = absurd cc
 loose_self (Granted t) u w e = absurd cc
@@ -54,8 +47,8 @@ packed_with f (Granted u) t e = ap (λ (z : ℕ). z == t) (packed_thread (f u).p
 pub with_lies : (f : ℕ → Course) (p : LockPlace) (t : ℕ) → is_with p t ≡ true → lies_at f p ≡ lies_with (f t).place t
 with_lies f place.Free t e = absurd cc
 with_lies f (Loose w) t e = absurd cc
-with_lies f (With u) t e = ap (λ (z : ℕ). lies_with (f z).place z) (eq_from u t e)
-with_lies f (Granted u) t e = ap (λ (z : ℕ). lies_with (f z).place z) (eq_from u t e)
+with_lies f (With u) t e = ap (λ (z : ℕ). lies_with (f z).place z) (eqb-true u t e)
+with_lies f (Granted u) t e = ap (λ (z : ℕ). lies_with (f z).place z) (eqb-true u t e)
 
 not_with : (u t : ℕ) → u ≡ t → (u == t) ≡ false → ⊥
 not_with u t is e = (let f = ap (λ (z : ℕ). z == t) is ∙ eq_self t in cc)

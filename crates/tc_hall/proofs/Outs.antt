@@ -147,7 +147,7 @@ seal_outs v b n q =
     locks xs slots i None f e = added xs slots i (λ l is. absurd (clash (lock_in slots i) l e is))
     locks xs slots i (Some l) f e = ap (λ z. unless (keep z) (get_or (add_all xs slots) i None)) e
 
-pub called_claimed : (v : Knows) (word : ℕ) (q : PackageView) → Called (claim_call q word ∷ []) v (after_claim v word q)
+pub called_claimed : (v : Knows) (word : ℕ) (q : PackageView) → Called (claim_call v q word ∷ []) v (after_claim v word q)
 called_claimed v word q = record { image = refl; worker = refl; sealed = refl; joined = refl; calls = refl }
 
 pub called_taken : (v : Knows) (l : LockView) → Called (Take l.number ∷ []) v (after_take v l)

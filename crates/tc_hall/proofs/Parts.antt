@@ -1,30 +1,19 @@
 -- The lists of each live pass are its part of the order.
-use Rattle.std.proofs.Common.{◌≡◌, ◌≢◌, ℕ, zero, suc, ◌≤◌, ◌==◌, Bool, true, false, List, [], ◌∷◌, ◌++◌, length, set, sym, refl, ap, ◌∙◌, subst, ⊎_elim, arith, length-set, length-append, if◌then◌else◌}
+use Rattle.std.proofs.Common.{◌≡◌, ◌≢◌, ℕ, zero, suc, ◌≤◌, Bool, false, List, [], ◌∷◌, ◌++◌, length, set, sym, refl, ap, ◌∙◌, subst, ⊎_elim, arith, length-set, length-append, if◌then◌else◌, eq-eqb, ne_eqb}
 use Rattle.tc_hall.proofs.Vocabulary.{Take, Free, Line, line, Hall, IsLegal, IsOpening, Knows, Look, Made, MayDo, Operation, Stop, Stopped, HallTerms, after_operation, claim, claim_call, commit, dealt, free, fresh, get_elem?, gone, hall_after, join, lay, look, merged, miss, put, put_call, reach, sealed_block, some, some-injective, some-ne-none, split, starting, stop, stopped, take}
 use Rattle.tc_hall.specs.declared.board.PassCall.TheVariants.{Commit}
-use Rattle.std.proofs.lemmas.Bool.Decides.{nat_tests}
 use Rattle.atomic_table.proofs.Lists.{at_set}
 use Rattle.tc_mutex_spec.proofs.ListLaws.{there}
 use Rattle.tc_hall.specs.Order.{Notes, no_notes, noted, notes_of, HasNoted, HasOwnNotes}
 use Rattle.tc_hall.proofs.Cases.{apart}
 use Rattle.tc_lemmas.proofs.Lists.{at_end}
 
-same_by : (a b : ℕ) → a ≡ b → (a == b) ≡ true
-same_by a b e = grind (arith, nat_tests)
-
-apart_by : (a b : ℕ) → a ≢ b → (a == b) ≡ false
-apart_by a b ne = by (a == b) refl
-  where
-    by : (x : Bool) → (a == b) ≡ x → x ≡ false
-    by false e = refl
-    by true e = absurd (ne (grind (arith, nat_tests)))
-
 -- the notes of the pass that made the operation, and of another
 own_notes : (m : Made) (before : List Made) (id : ℕ) → m.pass ≡ id → notes_of (m ∷ before) id ≡ noted (notes_of before) m.pass m.knew m.operation
-own_notes m before id e = ap (λ (z : Bool). if z then noted (notes_of before) m.pass m.knew m.operation else notes_of before id) (same_by m.pass id e)
+own_notes m before id e = ap (λ (z : Bool). if z then noted (notes_of before) m.pass m.knew m.operation else notes_of before id) (eq-eqb m.pass id e)
 
 other_notes : (m : Made) (before : List Made) (id : ℕ) → m.pass ≢ id → notes_of (m ∷ before) id ≡ notes_of before id
-other_notes m before id ne = ap (λ (z : Bool). if z then noted (notes_of before) m.pass m.knew m.operation else notes_of before id) (apart_by m.pass id ne)
+other_notes m before id ne = ap (λ (z : Bool). if z then noted (notes_of before) m.pass m.knew m.operation else notes_of before id) (ne_eqb m.pass id ne)
 
 as_many : (vs : List Knows) (id : ℕ) (w : Knows) → length vs ≤ length (set vs id w)
 as_many vs id w = let l = length-set vs id w in omega arith
@@ -106,10 +95,10 @@ module _ (k : HallTerms) (s : Hall) (before : List Made) (id : ℕ) (v : Knows) 
       (at_set (set s.views id (merged v w)) other j gone x e)
 
   part_after : (o : Operation) → MayDo k s id v o → Goal o
-  part_after (claim t word q) may = replaced (claim t word q) _ record { calls = ap (λ z. z ++ claim_call q word ∷ []) mine.calls; sealed = mine.sealed; missed = mine.missed; claimed = ap (λ z. z ++ q ∷ []) mine.claimed; taken = mine.taken }
+  part_after (claim t word q) may = replaced (claim t word q) _ record { calls = ap (λ z. z ++ claim_call v q word ∷ []) mine.calls; sealed = mine.sealed; missed = mine.missed; claimed = ap (λ z. z ++ q ∷ []) mine.claimed; taken = mine.taken }
   part_after (take i l) may = replaced (take i l) _ record { calls = ap (λ z. z ++ Take l.number ∷ []) mine.calls; sealed = mine.sealed; missed = mine.missed; claimed = mine.claimed; taken = ap (λ z. z ++ l ∷ []) mine.taken }
   part_after (miss word wanted found) may = replaced (miss word wanted found) _ record { calls = mine.calls; sealed = mine.sealed; missed = ap (λ z. z ++ record { word = word; found = found } ∷ []) mine.missed; claimed = mine.claimed; taken = mine.taken }
-  part_after (commit stamp b q) may = replaced (commit stamp b q) _ record { calls = ap (λ z. z ++ Commit q.context.thread stamp ∷ []) mine.calls; sealed = ap (λ z. z ++ sealed_block stamp v.worker b ∷ []) mine.sealed; missed = mine.missed; claimed = mine.claimed; taken = mine.taken }
+  part_after (commit stamp b q) may = replaced (commit stamp b q) _ record { calls = ap (λ z. z ++ Commit q.context.thread (sealed_block stamp v.worker b) ∷ []) mine.calls; sealed = ap (λ z. z ++ sealed_block stamp v.worker b ∷ []) mine.sealed; missed = mine.missed; claimed = mine.claimed; taken = mine.taken }
   part_after (put q place) may = replaced (put q place) _ record { calls = ap (λ z. z ++ put_call q place ∷ []) mine.calls; sealed = mine.sealed; missed = mine.missed; claimed = mine.claimed; taken = mine.taken }
   part_after (free l) may = replaced (free l) _ record { calls = ap (λ z. z ++ Free l.number ∷ []) mine.calls; sealed = mine.sealed; missed = mine.missed; claimed = mine.claimed; taken = mine.taken }
   part_after (look t found) may = replaced (look t found) _ record { calls = ap (λ z. z ++ Look t found ∷ []) mine.calls; sealed = mine.sealed; missed = mine.missed; claimed = mine.claimed; taken = mine.taken }

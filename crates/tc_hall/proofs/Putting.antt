@@ -1,6 +1,7 @@
 -- What `put` and `free` ask and say, seen past the slot that the pass holds in between.
-use Rattle.std.proofs.Common.{◌≡◌, ℕ, [], ◌∷◌, Option, Some, None, refl, sym, ap, ◌∙◌, subst}
-use Rattle.tc_hall.proofs.Vocabulary.{Called, Free, Freed, Gave, HasStop, IsAsLeft, Knows, LockView, MayPut, PackageView, Place, HallTerms, after_free, after_put, code_of, get_elem?, made, outs, place_of, put_call, seen}
+use Rattle.std.proofs.Common.{◌≡◌, ℕ, [], ◌∷◌, Option, Some, None, refl, sym, ap, ◌∙◌, subst, ⊎_elim, inl, inr}
+use Rattle.tc_hall.proofs.Vocabulary.{Called, Free, Freed, Gave, HasStop, IsAsLeft, Knows, LockView, MayPut, PackageView, Place, HallTerms, Seals, after_free, after_put, code_of, get_elem?, made, outs, place_of, put_call, seen}
+use Rattle.tc_hall.specs.Standing.{IfLined, FreesAs, PutsAs, SealsAs, SealsPending}
 use Rattle.tc_hall.proofs.Outs.{put_outs, free_outs}
 use Rattle.tc_hall.proofs.Telling.{place_codes}
 
@@ -10,6 +11,22 @@ with_hand v o (seen i e) = seen i e
 
 pub may_put_as : (place : Place) (v w : Knows) (q : PackageView) (o : Option ℕ) → w ≡ record v { open_slot = o } → MayPut place v q → MayPut place w q
 may_put_as place v w q o is may = subst (λ (z : Knows). MayPut place z q) (sym is) record { has = may.has; locks = may.locks; order = may.order; stop = λ a. with_hand v o (may.stop a); fits = may.fits }
+
+-- what is asked of a pass's list
+if_lined : (k : HallTerms) (v : Knows) (o : Option ℕ) (P Q : Type 0) → (P → Q) → IfLined k v P → IfLined k (record v { open_slot = o }) Q
+if_lined k v o P Q f asked lined = ⊎_elim (λ (h : HasStop v). inl (with_hand v o h)) (λ (p : P). inr (f p)) (asked lined)
+
+pub puts_still : (k : HallTerms) (v w : Knows) (q : PackageView) (place : Place) (o : Option ℕ) → w ≡ record v { open_slot = o } → IfLined k v (PutsAs v q place) → IfLined k w (PutsAs w q place)
+puts_still k v w q place o is asked =
+    subst (λ (z : Knows). IfLined k z (PutsAs z q place)) (sym is)
+    (if_lined k v o (PutsAs v q place) (PutsAs (record v { open_slot = o }) q place) (λ a. record { locks = a.locks; others = a.others; waits = a.waits; slept = a.slept; turns = a.turns }) asked)
+
+pub frees_still : (k : HallTerms) (v w : Knows) (i : ℕ) (o : Option ℕ) → w ≡ record v { open_slot = o } → IfLined k v (FreesAs v i) → IfLined k w (FreesAs w i)
+frees_still k v w i o is asked = subst (λ (z : Knows). IfLined k z (FreesAs z i)) (sym is) (if_lined k v o (FreesAs v i) (FreesAs (record v { open_slot = o }) i) (λ a. a) asked)
+
+-- of the pending block
+pub seals_block : (k : HallTerms) (v : Knows) (q : PackageView) (a : Seals v q) → IfLined k v (SealsPending v q) → IfLined k v (SealsAs v a.ran.block)
+seals_block k v q a asked lined = ⊎_elim (λ (h : HasStop v). inl h) (λ (p : SealsPending v q). inr (p a.ran.block a.ran.pending)) (asked lined)
 
 pub left_as : (k : HallTerms) (v w : Knows) (q : PackageView) (o : Option ℕ) → w ≡ record v { open_slot = o } → IsAsLeft k w q → IsAsLeft k v q
 left_as k v w q o is left = record { history = left.history; tells = left.tells; obeys = left.obeys; follows = left.follows; sealed = λ i b e. left.sealed i b (ap (λ (z : Knows). get_elem? z.sealed i) is ∙ e) }

@@ -46,8 +46,8 @@ module _ (vs : List Knows) (id : ℕ) (v w : Knows) (at : get_elem? vs id ≡ so
 -- what a call says of the words of a hall of n threads holds
 abbrev pub IsTrueCall : ℕ → List ℕ → PassCall → Type 0
 IsTrueCall n ws (Put t place numbers given turns) = Unit {0}
-IsTrueCall n ws (Claim t place) = Unit {0}
-IsTrueCall n ws (Commit t stamp) = Unit {0}
+IsTrueCall n ws (Claim t place numbers given turns kind) = Unit {0}
+IsTrueCall n ws (Commit t b) = Unit {0}
 IsTrueCall n ws (Take i) = Unit {0}
 IsTrueCall n ws (Free i) = Unit {0}
 IsTrueCall n ws (Line i c) = Unit {0}

@@ -28,7 +28,7 @@ use Rattle.tc_hall.proofs.Cases.{same_at}
 use Rattle.tc_lemmas.proofs.Lists.{at_end}
 
 -- a lock of the sealed package was in the package before its block
-came : (image : Shown) (p q : PackageView) (n w : ℕ) → DidRun image p q → (i : ℕ) (l : LockView) → locked_in (with_seal n w q) i ≡ Some l → (o : LockView) × (locked_in p i ≡ Some o)
+pub came : (image : Shown) (p q : PackageView) (n w : ℕ) → DidRun image p q → (i : ℕ) (l : LockView) → locked_in (with_seal n w q) i ≡ Some l → (o : LockView) × (locked_in p i ≡ Some o)
 came image p q n w ran i l e = some_of (locked_in p i) (
     sym (ran.runs.keeps.set i) ∙ sym (some_map (with_journal (sealed_as n w)) (lock_in q.context.locks i)) ∙ ap is_some (sym (sealed_at n w q.context.locks i) ∙ e)
     )
@@ -148,8 +148,8 @@ module _ (k : HallTerms) (s : St k) (r : KeptHall k s) (id : ℕ) (v : Knows) (q
         passes = passes_stay k.image.value k.workers h (h ++ b ∷ []) s.words (set s.words CLOCK new) grows done stops s.views id w r.passes
             (pass_kept k.image.value k.workers h (h ++ b ∷ []) s.words (set s.words CLOCK new) grows done stops v w old (refl, refl, refl, refl) (λ i u e. inl e)
             (λ i c e. ⊎_elim (λ z. inl z) (λ (z : (i ≡ length v.sealed) × (b ≡ c)). inr (subst (λ (x : Block). get_elem? (h ++ b ∷ []) x.stamp ≡ some x) z.1 (at_last h b b.stamp (sym r.clock)))) (at_end v.sealed b c i e))
-            (λ i c e. ⊎_elim (λ z. inl z) (λ (z : (i ≡ length v.calls) × (Commit t stamp ≡ c)). inr (subst (IsTrueCall (threads k) (set s.words CLOCK new)) z.1 tt)) (at_end v.calls (Commit t stamp) c i e)) (λ u e. inl e));
-        stop = λ e. stop_stays s.views id v w at (λ i h. (i, at_longer v.calls (Commit t stamp ∷ []) i Stop h)) (r.stop (stops_back s.words CLOCK new (λ e. omega arith) e));
+            (λ i c e. ⊎_elim (λ z. inl z) (λ (z : (i ≡ length v.calls) × (Commit t b ≡ c)). inr (subst (IsTrueCall (threads k) (set s.words CLOCK new)) z.1 tt)) (at_end v.calls (Commit t b) c i e)) (λ u e. inl e));
+        stop = λ e. stop_stays s.views id v w at (λ i h. (i, at_longer v.calls (Commit t b ∷ []) i Stop h)) (r.stop (stops_back s.words CLOCK new (λ e. omega arith) e));
         apart = apart_stays s.views id v w at record { worker = refl; maker = refl; made = refl; spent = refl; joined = refl } live r.apart;
         listed = listed_seals h s.views id v w at r.listed b refl live r.apart refl refl refl refl refl;
       }

@@ -6,6 +6,7 @@ use prog.Atomic.{either}
 use Rattle.atomic_table.specs.Table.{step, Act, Valid, carried_after, Allows}
 use Rattle.atomic_table.proofs.Lists.{set_here, set_else, exchanged}
 use Rattle.tc_hall.specs.Steps.{Got, Took, claimed, laid, reached, took_as, put_as, did_free, looked, stopping, saw_stopped, sealed_as}
+use Rattle.tc_hall.specs.Standing.{IfLined, ClaimsAs, FreesAs, PutsAs, SealsAs, TakesAs}
 use Rattle.tc_hall.proofs.Outs.{lock_came, called_taken}
 use Rattle.tc_hall.proofs.Moves.{home_of, is_out, taken, gets}
 use Rattle.tc_hall.proofs.Cases.{clash, home_out}
@@ -26,8 +27,8 @@ module _ (k : HallTerms) where
   abbrev pub Claims : Option HallTerms → ℕ → ℕ → ℕ → ℕ → ℕ → Knows → List (ℕ × Option Cargo) → Type 0
   Claims o slots id word code new v c = Allows (IsOrdered k) slots id (v, c) word (λ x. either (x == code) new x) (claimed o (step slots word code new none) (v, c))
 
-  pub claims : (slots id t code new : ℕ) (v : Knows) (c : List (ℕ × Option Cargo)) → c ≡ [] → IsClaimable k code → new ≡ 512 + v.worker → t < threads k → v.spent ≡ false → v.open_slot ≡ None → Claims (Some k) slots id (slot_word t) code new v c
-  claims slots id t code new v c empty can new_is below live idle = subst (Claims (Some k) slots id (slot_word t) code new v) (sym empty) (λ s d deep at small.
+  pub claims : (slots id t code new : ℕ) (v : Knows) (c : List (ℕ × Option Cargo)) → c ≡ [] → IsClaimable k code → new ≡ 512 + v.worker → t < threads k → v.spent ≡ false → v.open_slot ≡ None → IfLined k v (ClaimsAs v t (place_of code)) → Claims (Some k) slots id (slot_word t) code new v c
+  claims slots id t code new v c empty can new_is below live idle stands = subst (Claims (Some k) slots id (slot_word t) code new v) (sym empty) (λ s d deep at small.
       let r : KeptHall k s = kept_of k s d in
       let low = (claimable_low k code r.told.limits.locks can).0 in
       let found : ℕ = slice_index s.words (slot_word t) in
@@ -42,7 +43,7 @@ module _ (k : HallTerms) where
         takes t (Some (Package h.context)),
         h.slot,
         subst (λ (z : ℕ). IsOrdered k (stepped s (slot_word t) z id [] (taken k v t code h.context) (takes t (Some (Package h.context))))) (sym new_is)
-            (next k s d id v (claim t code h.context) at live record { free = idle; below = below; can = can; found = hit; slot = h.slot }),
+            (next k s d id v (claim t code h.context) at live record { free = idle; below = below; can = can; found = hit; slot = h.slot; stands = stands }),
         (
           (λ _ u e. subst (λ (z : ℕ × ℕ). Got (Some k) z.1 z.0 (v, []) (taken k v t z.1 h.context, (t, Some (Package h.context)) ∷ [])) (λ i. ((let x : t ≡ u = omega arith in x) i, hit i)) (
             h.context,
@@ -90,13 +91,13 @@ module _ (k : HallTerms) where
 
   -- so the step that fills it is allowed
   pub fills : (slots id : ℕ) (place : Place) (v : Knows) (q : PackageView) (c : List (ℕ × Option Cargo)) → c ≡ (q.context.thread, Some (Package q)) ∷ [] → v.open_slot ≡ Some q.context.thread → v.spent ≡ false → IsInRange (locks k) place → MayPut place v q
-      → Fills slots id (slot_word q.context.thread) (code_of place) v c
-  fills slots id place v q c one open_slot live range may = subst (Fills slots id (slot_word q.context.thread) (code_of place) v) (sym one) (λ s d deep at small. (
+      → IfLined k v (PutsAs v q place) → Fills slots id (slot_word q.context.thread) (code_of place) v c
+  fills slots id place v q c one open_slot live range may stands = subst (Fills slots id (slot_word q.context.thread) (code_of place) v) (sym one) (λ s d deep at small. (
     record (after_put v q (place_of (code_of place))) { open_slot = None },
     gives,
     tt,
     subst (λ (z : Place). IsOrdered k (stepped s (slot_word q.context.thread) (code_of place) id ((q.context.thread, Some (Package q)) ∷ []) (record (after_put v q z) { open_slot = None }) gives)) (sym (place_codes place))
-        (next k s d id v (put q place) at live record { open_slot = open_slot; range = range; may = may }),
+        (next k s d id v (put q place) at live record { open_slot = open_slot; range = range; may = may; stands = stands }),
     (λ u x e. let cargo : Some (Package q) ≡ Some (Package x) = ap first_value e in
         let same : q ≡ x = cc cargo in (
           ap (filled v (place_of (code_of place))) same,
@@ -141,8 +142,8 @@ module _ (k : HallTerms) where
   abbrev pub TakesAll : Option HallTerms → ℕ → ℕ → ℕ → Knows → List (ℕ × Option Cargo) → Type 0
   TakesAll o slots id word v c = Allows (IsOrdered k) slots id (v, c) word (λ x. either (x == 0) 1 x) (took_as o (step slots word 0 1 none) (v, c))
 
-  pub takes_lock : (slots id i : ℕ) (v : Knows) (c : List (ℕ × Option Cargo)) → c ≡ [] → i < locks k → v.spent ≡ false → v.open_slot ≡ None → TakesAll (Some k) slots id (slot_word (threads k + i)) v c
-  takes_lock slots id i v c empty below live idle = subst (TakesAll (Some k) slots id (slot_word (threads k + i)) v) (sym empty) (λ s d deep at small.
+  pub takes_lock : (slots id i : ℕ) (v : Knows) (c : List (ℕ × Option Cargo)) → c ≡ [] → i < locks k → v.spent ≡ false → v.open_slot ≡ None → IfLined k v (TakesAs v i) → TakesAll (Some k) slots id (slot_word (threads k + i)) v c
+  takes_lock slots id i v c empty below live idle stands = subst (TakesAll (Some k) slots id (slot_word (threads k + i)) v) (sym empty) (λ s d deep at small.
       let r : KeptHall k s = kept_of k s d in
       let n : ℕ = threads k in
       let j : ℕ = slot_word (n + i) in
@@ -162,7 +163,7 @@ module _ (k : HallTerms) where
         w,
         takes (n + i) (Some (Lock l)),
         h.slot,
-        next k s d id v (take i l) at live record { free = idle; below = below; word = hit; slot = h.slot },
+        next k s d id v (take i l) at live record { free = idle; below = below; word = hit; slot = h.slot; stands = stands },
         (
           (λ _ k' u slot is at' e. let same : k ≡ k' = terms_are k k' is in let wide' : threads k ≡ threads k' = ap threads same in let number' : i ≡ u = omega arith in let slot' : n + i ≡ slot = omega arith in
               subst (λ (z : HallTerms × ℕ × ℕ). Took z.0 z.1 z.2 (v, []) (w, (n + i, Some (Lock l)) ∷ [])) (λ y. (same y, number' y, slot' y)) (
@@ -192,13 +193,13 @@ module _ (k : HallTerms) where
   FreesAll slots id word v c = Allows (IsOrdered k) slots id (v, c) word (λ _. 0) (λ _. did_free (step slots word 0 0 none) (v, c) 0)
 
   -- so the step that fills it is allowed
-  pub frees : (slots id : ℕ) (v : Knows) (l : LockView) (c : List (ℕ × Option Cargo)) → c ≡ (threads k + l.number, Some (Lock l)) ∷ [] → v.open_slot ≡ Some (threads k + l.number) → v.spent ≡ false → MayFree v l
+  pub frees : (slots id : ℕ) (v : Knows) (l : LockView) (c : List (ℕ × Option Cargo)) → c ≡ (threads k + l.number, Some (Lock l)) ∷ [] → v.open_slot ≡ Some (threads k + l.number) → v.spent ≡ false → MayFree v l → IfLined k v (FreesAs v l.number)
       → FreesAll slots id (slot_word (threads k + l.number)) v c
-  frees slots id v l c one open_slot live may = subst (FreesAll slots id (slot_word (threads k + l.number)) v) (sym one) (λ s d deep at small. (
+  frees slots id v l c one open_slot live may stands = subst (FreesAll slots id (slot_word (threads k + l.number)) v) (sym one) (λ s d deep at small. (
     record (after_free v l) { open_slot = None },
     gives,
     tt,
-    next k s d id v (free l) at live (open_slot, may),
+    next k s d id v (free l) at live (open_slot, may, stands),
     (λ slot x e. let cargo : Some (Lock l) ≡ Some (Lock x) = ap first_value e in let same : l ≡ x = cc cargo in ap (freed v) same),
   ))
     where
@@ -210,19 +211,19 @@ module _ (k : HallTerms) where
   pub splits : (id : ℕ) (v : Knows) → v.spent ≡ false → v.maker ≡ true → v.made < v.worker → Splits (IsOrdered k) id v (dealt v) (fresh v)
   splits id v live makes room s d at = next k s d id v split at live (makes, room)
 
-  pub merges : (id : ℕ) (v : Knows) (other : ℕ) (w : Knows) → v.spent ≡ false → w.spent ≡ false → IsFree w → Joins (IsOrdered k) id v other w (merged v w) gone
-  merges id v other w live lives clear s d at ne there' = next k s d id v (join other w) at live (sym (set_else s.views id other (merged v w) ne) ∙ there', lives, ne, clear)
+  pub merges : (id : ℕ) (v : Knows) (other : ℕ) (w : Knows) → v.spent ≡ false → w.spent ≡ false → IsFree w → (k.lined ≡ true → IsFree v) → Joins (IsOrdered k) id v other w (merged v w) gone
+  merges id v other w live lives clear both s d at ne there' = next k s d id v (join other w) at live (sym (set_else s.views id other (merged v w) ne) ∙ there', lives, ne, clear, both)
 
 -- ---- commit
 
 abbrev pub SealsAll : HallTerms → ℕ → ℕ → Knows → Option PackageView → List (ℕ × Option Cargo) → Type 0
 SealsAll k slots id v o c = Allows (IsOrdered k) slots id (v, c) CLOCK (λ n. (n + 1) % 2 ^ 64) (sealed_as o (step slots CLOCK 1 0 none) (v, c))
 
-pub seals : (k : HallTerms) (slots id : ℕ) (v : Knows) (q : PackageView) (c : List (ℕ × Option Cargo)) → c ≡ [] → v.spent ≡ false → Seals v q → SealsAll k slots id v (Some q) c
-seals k slots id v q c empty live a = subst (SealsAll k slots id v (Some q)) (sym empty) (λ s d deep at small. (
+pub seals : (k : HallTerms) (slots id : ℕ) (v : Knows) (q : PackageView) (c : List (ℕ × Option Cargo)) → c ≡ [] → v.spent ≡ false → (a : Seals v q) → IfLined k v (SealsAs v a.ran.block) → SealsAll k slots id v (Some q) c
+seals k slots id v q c empty live a stands = subst (SealsAll k slots id v (Some q)) (sym empty) (λ s d deep at small. (
   after_seal v (sealed_block (slice_index s.words CLOCK) v.worker a.ran.block) (with_seal (slice_index s.words CLOCK) v.worker q),
   keeps,
   tt,
-  next k s d id v (commit (slice_index s.words CLOCK) a.ran.block q) at live (refl, a, refl),
+  next k s d id v (commit (slice_index s.words CLOCK) a.ran.block q) at live (refl, a, refl, stands),
   (λ p is. (let same : q ≡ p = cc is in subst (λ z. DidSeal z (slice_index s.words CLOCK) v (after_seal v (sealed_block (slice_index s.words CLOCK) v.worker a.ran.block) (with_seal (slice_index s.words CLOCK) v.worker q))) same (did_seal k s (kept_of k s d) id v q a live at), refl)),
 ))

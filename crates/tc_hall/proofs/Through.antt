@@ -1,5 +1,5 @@
 -- What the turns of a block and its Commit make of a core.
-use Rattle.std.proofs.Common.{◌≡◌, ◌≢◌, ℕ, zero, suc, ◌+◌, ◌==◌, ◌&&◌, Bool, true, false, not, [], ◌∷◌, ◌++◌, replicate, sym, refl, ap, ◌∙◌, subst, add-one, Option, Some, None}
+use Rattle.std.proofs.Common.{◌≡◌, ◌≢◌, ℕ, zero, suc, ◌+◌, ◌==◌, ◌&&◌, Bool, true, false, not, [], ◌∷◌, ◌++◌, replicate, sym, refl, ap, ◌∙◌, subst, add-one, Option, Some, None, eqb-true, List}
 use Rattle.tc_hall.proofs.Vocabulary.{AreEnabled, At, Commit, Core, Course, Custody, End, Event, Granted, IsBetween, LockPlace, Loose, Shown, State, ThreadPlace, With, end_at, end_rule, lies_at, lies_with, next_lock, outcome_of, runs}
 use Rattle.std.specs.Prelude.{if◌then◌else◌, is_some}
 use Rattle.std.proofs.lemmas.Bool.{and_parts}
@@ -14,7 +14,7 @@ use Rattle.tc_core.specs.Stories.{after_all}
 use Rattle.tc_core.specs.declared.event.Event.TheVariants.{Turn}
 use Rattle.tc_core.specs.declared.place.Release.{Release}
 use Rattle.tc_core.specs.declared.place.LockPlace.TheVariants as place
-use Rattle.tc_hall.proofs.Outlines.{if_here, if_else, eq_from}
+use Rattle.tc_hall.proofs.Outlines.{if_here, if_else}
 use Rattle.tc_core.proofs.Standing.{with_is}
 
 -- one event more at the end
@@ -25,6 +25,10 @@ last_event image e (suc n) c = last_event image e n (effect image c e)
 pub then_event : (image : Shown) (e x : Event) (n : ℕ) (c : Core) → after_all image c (replicate n e ++ x ∷ []) ≡ effect image (after_all image c (replicate n e)) x
 then_event image e x zero c = refl
 then_event image e x (suc n) c = then_event image e x n (effect image c e)
+
+pub after_more : (image : Shown) (c : Core) (xs ys : List Event) → after_all image c (xs ++ ys) ≡ after_all image (after_all image c xs) ys
+after_more image c [] ys = refl
+after_more image c (x ∷ xs) ys = after_more image (effect image c x) xs ys
 
 -- how the block ends, if it ends with its turn number j
 abbrev pub ended_by : Shown → State → ℕ → ℕ → Option End
@@ -71,7 +75,7 @@ third : (a b c d : Bool) → (a && (b && (c && d))) ≡ true → d ≡ true
 third a b c d e = (and_parts c d ((and_parts b (c && d) ((and_parts a (b && (c && d)) e).1)).1)).1
 
 granted_to : (p : LockPlace) (t : ℕ) → is_granted p t ≡ true → p ≡ Granted t
-granted_to (Granted u) t e = ap (λ (z : ℕ). Granted z) (eq_from u t e)
+granted_to (Granted u) t e = ap (λ (z : ℕ). Granted z) (eqb-true u t e)
 granted_to place.Free t e = absurd cc
 granted_to (With u) t e = absurd cc
 granted_to (Loose u) t e = absurd cc

@@ -41,13 +41,14 @@ pub use Rattle.tc_hall.specs.Lines.{AreInRange, line_word, lines_of, link_word_o
 pub use Rattle.tc_hall.specs.Effects.{Hall, after, claim_effect, commit_effect, line_effect, look_effect, miss_effect, put_effect, stopped_effect, take_effect}
 pub use Rattle.tc_hall.specs.Made.{AreDealt, AreStocked, AreTaken, IsEmptied, IsMaker}
 pub use Rattle.tc_hall.specs.Order.{IsClaimable, IsLegal, IsOpening, IsOrdered, IsSlotOut, Made, MayClaim, MayDo, MayFill, Operation, after_operation, claim, commit, free, hall_after, join, lay, line, look, miss, of_lock, of_package, put, reach, split, stop, stopped, take}
+pub use Rattle.tc_hall.specs.Closing.{IsEnd}
 pub use Rattle.tc_hall.specs.Outline.{IsBetween, Lying, Outline, at_home, in_hand, lies_at, lies_with, outline, packed}
 pub use Rattle.tc_hall.specs.Outs.{Called, outs}
 pub use Rattle.tc_hall.specs.PassView.{HallView, PassView}
 pub use Rattle.tc_hall.specs.Places.{IsInRange, code_of, place_of, slot_word}
 pub use Rattle.tc_hall.specs.Rule.{AreApart, AreLocksPlaced, ArePlaced, Has, HasLock, HasStopped, Homes, IsHome, IsInLimits, IsInOrder, IsLockHome, IsLockOut, IsPass, KeptHall, Lies, LiesLock, Spot, clean, grants_adopted, home, inside, is_pinned, last_by, line_places, locked_in, locks, out, starting, threads, words_of}
 pub use Rattle.tc_hall.specs.Shown.{IsShown, LockAt, PackageAt, ShowsLock, ShowsThread, as_place, in_slot, last_end, lock_in_package, lock_in_slot, lock_with_pass, place_shown, with_pass}
-pub use Rattle.tc_hall.specs.Steps.{DidSeal, Freed, Gave, Gets, HasAll, HasSeenAll, HasStop, IsAsLeft, IsEnd, IsFree, IsStateAsLeft, MayFree, MayPut, Sat, Seals, add_all, after_claim, after_free, after_miss, after_put, after_seal, after_take, claim_call, dealt, fresh, gone, made, merged, put_call, remove_all, seen, with_call}
+pub use Rattle.tc_hall.specs.Steps.{DidSeal, Freed, Gave, Gets, HasAll, HasSeenAll, HasStop, IsAsLeft, IsFree, IsStateAsLeft, MayFree, MayPut, Sat, Seals, add_all, after_claim, after_free, after_miss, after_put, after_seal, after_take, claim_call, dealt, fresh, gone, made, merged, put_call, remove_all, seen, with_call}
 pub use Rattle.tc_hall.specs.Ties.{Shows, after_events, machine_limits, turns_by}
 pub use Rattle.tc_hall.specs.declared.board.PassCall.{PassCall}
 pub use Rattle.tc_hall.specs.declared.board.PassCall.TheVariants.{Free, Line, Look, Put, Stop, Stopped, Take}

@@ -4,9 +4,11 @@ pub mod Rule
 pub mod Outs
 pub mod Lines
 pub mod Steps
+pub mod Standing
 pub mod Made
 pub mod Effects
 pub mod Order
+pub mod Closing
 pub mod Outline
 pub mod Shown
 pub mod Ties

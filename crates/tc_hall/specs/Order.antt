@@ -20,9 +20,10 @@ use Rattle.tc_hall.specs.declared.board.PassCall.{PassCall}
 use Rattle.tc_hall.specs.declared.board.PassCall.TheVariants.{Commit, Take, Free, Line, Look, Stop, Stopped}
 use Rattle.tc_hall.specs.declared.board.Cargo.{Cargo}
 use Rattle.tc_hall.specs.declared.board.Cargo.TheVariants.{Package, Lock}
-use Rattle.tc_hall.specs.Places.{IsInRange, code_of, slot_word}
+use Rattle.tc_hall.specs.Places.{IsInRange, code_of, place_of, slot_word}
 use Rattle.tc_hall.specs.Rule.{threads, locks, words_of, starting, Has, HasLock, IsInLimits, KeptHall}
 use Rattle.tc_hall.specs.Steps.{MayPut, MayFree, Seals, IsFree, claim_call, put_call}
+use Rattle.tc_hall.specs.Standing.{IfLined, CallsAs, ClaimsAs, FreesAs, PutsAs, SealsAs, TakesAs}
 use Rattle.tc_hall.specs.Lines.{AreInRange, line_word, lines_of, plain_at}
 use Rattle.tc_hall.specs.Effects.{Hall, after, line_effect, claim_effect, commit_effect, put_effect, take_effect, free_effect, look_effect, stop_effect, stopped_effect, miss_effect, reach_effect, lay_effect, with_new_pass, with_joined}
 use Rattle.tc_hall.specs.Made.{AreStocked}
@@ -79,12 +80,14 @@ pub record MayClaim (k : HallTerms) (s : Hall) (v : Knows) (t word : ℕ) (q : P
   pub can : IsClaimable k word
   pub found : slice_index s.words (slot_word t) ≡ word
   pub slot : get_elem? s.homes t ≡ some (some (Some (Package q)))
+  pub stands : IfLined k v (ClaimsAs v t (place_of word))
 
 pub record MayTake (k : HallTerms) (s : Hall) (v : Knows) (i : ℕ) (l : LockView) : Type 0 where
   pub free : v.open_slot ≡ None
   pub below : i < locks k
   pub word : slice_index s.words (slot_word (threads k + i)) ≡ 0
   pub slot : get_elem? s.homes (threads k + i) ≡ some (some (Some (Lock l)))
+  pub stands : IfLined k v (TakesAs v i)
 
 -- the slot is that of a package or a lock state that the pass has out
 pub data IsSlotOut (k : HallTerms) (v : Knows) (slot : ℕ) : Type 0 where
@@ -96,23 +99,24 @@ pub record MayFill (k : HallTerms) (v : Knows) (q : PackageView) (place : Place)
   pub open_slot : v.open_slot ≡ Some q.context.thread
   pub range : IsInRange (locks k) place
   pub may : MayPut place v q
+  pub stands : IfLined k v (PutsAs v q place)
 
 -- the pass id, whose state is v, may do this now
 abbrev pub MayDo : HallTerms → Hall → ℕ → Knows → Operation → Type 0
 MayDo k s id v (claim t word q) = MayClaim k s v t word q
 MayDo k s id v (take i l) = MayTake k s v i l
 MayDo k s id v (miss word wanted found) = (slice_index s.words word ≡ found) × (found ≢ wanted)
-MayDo k s id v (commit stamp b q) = (slice_index s.words CLOCK ≡ stamp) × (a : Seals v q) × (a.ran.block ≡ b)
+MayDo k s id v (commit stamp b q) = (slice_index s.words CLOCK ≡ stamp) × (a : Seals v q) × (a.ran.block ≡ b) × IfLined k v (SealsAs v b)
 MayDo k s id v (put q place) = MayFill k v q place
-MayDo k s id v (free l) = (v.open_slot ≡ Some (threads k + l.number)) × MayFree v l
+MayDo k s id v (free l) = (v.open_slot ≡ Some (threads k + l.number)) × MayFree v l × IfLined k v (FreesAs v l.number)
 MayDo k s id v (look t found) = (t < threads k) × (slice_index s.words (slot_word t) ≡ found)
 MayDo k s id v stop = Unit {0}
 MayDo k s id v (stopped found) = slice_index s.words STOP ≡ found
-MayDo k s id v (line i c) = (k.lined ≡ true) × (i < locks k) × MayComeThere (threads k) (plain_at k i s.words) (lines_of i v.calls) c
+MayDo k s id v (line i c) = (k.lined ≡ true) × (i < locks k) × MayComeThere (threads k) (plain_at k i s.words) (lines_of i v.calls) c × IfLined k v (CallsAs v i c)
 MayDo k s id v (reach slot) = (v.open_slot ≡ None) × IsSlotOut k v slot
 MayDo k s id v (lay slot) = (v.open_slot ≡ Some slot) × IsSlotOut k v slot
 MayDo k s id v split = (v.maker ≡ true) × (v.made < v.worker)
-MayDo k s id v (join other w) = (get_elem? s.views other ≡ some w) × (w.spent ≡ false) × (other ≢ id) × IsFree w
+MayDo k s id v (join other w) = (get_elem? s.views other ≡ some w) × (w.spent ≡ false) × (other ≢ id) × IsFree w × (k.lined ≡ true → IsFree v)
 
 -- an operation, the pass that made it, and the state of the pass before it
 pub record Made : Type 0 where
@@ -174,10 +178,10 @@ both_notes n o = record { calls = n.calls ++ o.calls; sealed = n.sealed ++ o.sea
 
 -- the notes of the pass id after its operation, if all passes had these before
 abbrev pub noted : (ℕ → Notes) → ℕ → Knows → Operation → Notes
-noted all id v (claim t word q) = record (with_noted (all id) (claim_call q word)) { claimed = (all id).claimed ++ q ∷ [] }
+noted all id v (claim t word q) = record (with_noted (all id) (claim_call v q word)) { claimed = (all id).claimed ++ q ∷ [] }
 noted all id v (take i l) = record (with_noted (all id) (Take l.number)) { taken = (all id).taken ++ l ∷ [] }
 noted all id v (miss word wanted found) = record (all id) { missed = (all id).missed ++ record { word = word; found = found } ∷ [] }
-noted all id v (commit stamp b q) = record (with_noted (all id) (Commit q.context.thread stamp)) { sealed = (all id).sealed ++ sealed_block stamp v.worker b ∷ [] }
+noted all id v (commit stamp b q) = record (with_noted (all id) (Commit q.context.thread (sealed_block stamp v.worker b))) { sealed = (all id).sealed ++ sealed_block stamp v.worker b ∷ [] }
 noted all id v (put q place) = with_noted (all id) (put_call q place)
 noted all id v (free l) = with_noted (all id) (Free l.number)
 noted all id v (look t found) = with_noted (all id) (Look t found)

@@ -1,16 +1,17 @@
 -- What each step says, and its effect on the state of the pass.
-use Rattle.std.specs.Prelude.{◌≡◌, ◌≢◌, ◌⊎◌, ℕ, ◌+◌, ◌<◌, Bool, true, false, List, [], ◌∷◌, ◌++◌, length, slice_set, map, filter, is_some, Option, Some, None}
+use Rattle.std.specs.Prelude.{◌≡◌, ◌≢◌, ◌⊎◌, ℕ, ◌+◌, ◌<◌, Bool, true, false, List, [], ◌∷◌, ◌++◌, length, slice_index_or, slice_set, map, filter, if◌then◌else◌, is_some, Option, Some, None}
 use Rattle.std.specs.List.{range_with_len}
 use Rattle.std.specs.Option.{option_map}
 use mathlib.Core.Option.{some}
 use lib.ListN.{get_elem?}
 use Rattle.atomic_table.specs.Table.{Me, Step, rest}
 use Rattle.tc_elf.specs.Shown.{Shown}
-use Rattle.tc_journal.specs.Batch.{Obeys, is_adopted, last_of}
-use Rattle.tc_journal.specs.Handing.{AreTogether, Delegates, IsHandedOver, has_unlocked}
+use Rattle.tc_journal.specs.Batch.{Obeys, is_adopted, last_of, may_adopt, run_of}
+use Rattle.tc_journal.specs.Handing.{AreTogether, IsHandedOver, has_unlocked}
 use Rattle.tc_journal.specs.History.{of_lock}
 use Rattle.tc_journal.specs.declared.block.Block.{Block}
-use Rattle.tc_turn.specs.Turn.{is_running}
+use Rattle.tc_journal.specs.declared.block.Kind.{Kind}
+use Rattle.tc_journal.specs.declared.block.Kind.TheVariants.{Adopted, Granted}
 use Rattle.tc_mutex_spec.specs.Blocks.{Tells, end_after}
 use Rattle.tc_segment.specs.View.{LockView, IsAtRest, blocks_of, kept, sealed_block, EndsSection}
 use Rattle.tc_context.specs.declared.package.Grant.{Grant}
@@ -18,10 +19,10 @@ use Rattle.tc_context.specs.Locks.{lock_in}
 use Rattle.tc_context.specs.View.{PackageView, AllowsPending, bare, fits_of, number_in, with_seal}
 use Rattle.tc_context.specs.Ran.{DidRun}
 use Rattle.tc_law.specs.History.{Follows, StateFollows}
-use Rattle.tc_law.specs.Lawful.{Lawful, AreStrict}
 use Rattle.tc_queue.specs.Asked.{Ask, IsFound, answered}
 use Rattle.tc_hall.specs.declared.place.TheConstants.{DONE}
 use Rattle.tc_hall.specs.declared.place.Place.{Place}
+use Rattle.tc_hall.specs.declared.place.Place.TheVariants.{Waiting}
 use Rattle.tc_hall.specs.declared.board.Given.{Given}
 use Rattle.tc_hall.specs.declared.board.HallTerms.{HallTerms}
 use Rattle.tc_hall.specs.declared.board.Knows.{Knows}
@@ -59,16 +60,37 @@ add_all (x ∷ xs) (o ∷ slots) = or_kept x o ∷ add_all xs slots
 abbrev pub with_package_out : Knows → PackageView → Knows
 with_package_out v q = record v { packages = slice_set v.packages q.context.thread (Some (bare q)); locks = add_all v.locks q.context.locks }
 
+-- the lock that is granted, with its kind and the number of its queue turn
+abbrev pub given_of : PackageView → Option Given
+given_of q = option_map (λ (g : Grant). record { lock = g.lock; kind = g.kind; number = number_in q g.lock }) q.granted
+
+-- for each lock the number of the queue turn with which it came, if it is in the package
+abbrev pub came_with : PackageView → List (Option ℕ)
+came_with q = map (λ i. option_map (λ (l : LockView). number_in q i) (lock_in q.context.locks i)) (range_with_len 0 (length q.context.locks))
+
+-- how a waiter gets the lock, by the batch rule, after its last block
+abbrev pub passed_after : LockView → Option Block → Kind
+passed_after l None = Granted
+passed_after l (Some b) = if may_adopt b l.number (run_of l.number (blocks_of l)) l.journal.limit then Adopted else Granted
+
+abbrev pub passed_kind : LockView → Kind
+passed_kind l = passed_after l (last_of (blocks_of l))
+
+-- how one that waits at this place gets the lock from the pass, if that has it
+abbrev pub kind_passed : Knows → Place → Option Kind
+kind_passed v (Waiting i) = option_map passed_kind (slice_index_or v.locks i None)
+kind_passed v place = None
+
 -- the call that takes the package, where the word of its thread was this
-abbrev pub claim_call : PackageView → ℕ → PassCall
-claim_call q word = Claim q.context.thread (place_of word)
+abbrev pub claim_call : Knows → PackageView → ℕ → PassCall
+claim_call v q word = Claim q.context.thread (place_of word) (came_with q) (given_of q) q.turns (kind_passed v (place_of word))
 
 abbrev pub after_claim : Knows → ℕ → PackageView → Knows
-after_claim v word q = record (with_package_out v q) { pinned = slice_set v.pinned q.context.thread (is_pinned q); claimed = v.claimed ++ q ∷ []; calls = v.calls ++ claim_call q word ∷ [] }
+after_claim v word q = record (with_package_out v q) { pinned = slice_set v.pinned q.context.thread (is_pinned q); claimed = v.claimed ++ q ∷ []; calls = v.calls ++ claim_call v q word ∷ [] }
 
 -- of `commit`, where the block b was sealed and the package is then q
 abbrev pub after_seal : Knows → Block → PackageView → Knows
-after_seal v b q = record (with_package_out v q) { sealed = v.sealed ++ b ∷ []; calls = v.calls ++ Commit q.context.thread b.stamp ∷ [] }
+after_seal v b q = record (with_package_out v q) { sealed = v.sealed ++ b ∷ []; calls = v.calls ++ Commit q.context.thread b ∷ [] }
 
 -- of `put`
 
@@ -84,10 +106,6 @@ remove_all (x ∷ xs) (o ∷ slots) = or_none x o ∷ remove_all xs slots
 -- the numbers of the locks in a package, the least first
 abbrev pub numbers : List (Option LockView) → List ℕ
 numbers slots = filter (λ i. is_some (lock_in slots i)) (range_with_len 0 (length slots))
-
--- the lock that is granted, with its kind and the number of its queue turn
-abbrev pub given_of : PackageView → Option Given
-given_of q = option_map (λ (g : Grant). record { lock = g.lock; kind = g.kind; number = number_in q g.lock }) q.granted
 
 -- the call that puts the package at the place
 abbrev pub put_call : PackageView → Place → PassCall
@@ -152,7 +170,7 @@ pub record Gets (word t : ℕ) (q : PackageView) (v w : Knows) : Type 0 where
   -- one that is pinned to one worker is recorded as such
   pub pinned : is_pinned q ≡ true → get_elem? w.pinned t ≡ some true
   pub came : CameOut (Pack q) v w
-  pub called : Called (claim_call q word ∷ []) v w
+  pub called : Called (claim_call v q word ∷ []) v w
 
 -- the word had another value than expected
 abbrev pub Missed : ℕ → ℕ → ℕ → Knows → Knows → Type 0
@@ -317,17 +335,6 @@ pub record IsLast (hall : HallView) (p : PassView) : Type 0 where
   pub own : p.table ≡ hall.table
   pub all : HasAll hall.terms.workers p.knows
   pub free : IsFree p.knows
-
--- the packages and lock states in order, at the end, if this was the last pass
-pub record IsEnd (k : HallTerms) (v : Knows) (qs : List PackageView) (ls : List LockView) : Type 0 where
-  pub history : List Block
-  pub law : Lawful k.image.value k.fuel k.limit history (map bare qs) (map kept ls)
-  pub strict : AreStrict ls
-  pub workers : (i : ℕ) (b : Block) → get_elem? history i ≡ some b → b.worker < k.workers
-  pub delegates : Delegates history
-  -- each block that it sealed, or that a pass joined into it sealed, is in the history at its stamp
-  pub sealed : (i : ℕ) (b : Block) → get_elem? v.sealed i ≡ some b → get_elem? history b.stamp ≡ some b
-  pub ended : (t : ℕ) (q : PackageView) → get_elem? qs t ≡ some q → (is_running q.context.guest.status ≡ false) × ((i : ℕ) → locked_in q i ≡ None)
 
 -- what is in a slot
 abbrev pub IsPackage : Option Cargo → Type 0

@@ -83,8 +83,11 @@ pub enum PassCall {
     /// The thread, its place, the numbers of the locks in its package, what was granted, and how
     /// many queue turns the package has taken.
     Put(u32, Place, LinkedList<u32>, Option<Given>, u64),
-    /// The thread, and the place that it was claimed from.
-    Claim(u32, Place),
+    /// The thread; the place that it was claimed from; for each lock the number of the queue turn
+    /// with which it came, if it is in its package; what was granted; how many queue turns the
+    /// package has taken; and how the lock for which it waited is passed on to it, if the pass has
+    /// that lock.
+    Claim(u32, Place, LinkedList<Option<u64>>, Option<Given>, u64, Option<Kind>),
     /// The lock.
     Take(u32),
     /// The lock.
@@ -97,8 +100,8 @@ pub enum PassCall {
     Stopped(u64),
     /// A call on the line of this lock, with its answer.
     Line(u32, QueueCall),
-    /// The thread, and the stamp of its block that was sealed.
-    Commit(u32, u64),
+    /// The thread, and its block, which was sealed.
+    Commit(u32, Block),
 }
 
 /// A word that had another value than the step expected.

@@ -7,10 +7,13 @@ ghost use Rattle.tc_elf.specs.declared.limits.TheConstants.{MAX_THREADS, MAX_GUA
 ghost use Rattle.tc_elf.specs.Shown.{Shown};
 ghost use Rattle.tc_context.specs.View.{IsWaiting, with_seal};
 ghost use Rattle.tc_hall.specs.declared.place.TheConstants.{WAITING};
-ghost use Rattle.tc_hall.specs.Places.{IsInRange, origin_code, slot_word};
+ghost use Rattle.tc_hall.specs.Places.{IsInRange, origin_code, place_of, slot_word};
+ghost use Rattle.tc_hall.specs.declared.place.Place.TheVariants.{Waiting};
+ghost use Rattle.tc_hall.specs.Standing.{IfLined, ClaimsAs, FreesAs, PutsAs, SealsPending, TakesAs};
 ghost use Rattle.tc_hall.specs.Rule.{threads, locks};
-ghost use Rattle.tc_hall.specs.Steps.{IsSamePass, IsPackage, IsLock, HoldsPackage, HoldsLock, Gets, MayPut, Gave, IsAsLeft, IsStateAsLeft, Missed, Takes, MayFree, Freed, Seals, DidSeal, after_look, after_stop, SawStopped, merged, IsFree, IsLast, HasSeenAll, IsEnd};
+ghost use Rattle.tc_hall.specs.Steps.{IsSamePass, IsPackage, IsLock, HoldsPackage, HoldsLock, Gets, MayPut, Gave, IsAsLeft, IsStateAsLeft, Missed, Takes, MayFree, Freed, Seals, DidSeal, after_look, after_stop, SawStopped, merged, IsFree, IsLast, HasSeenAll};
 ghost use Rattle.tc_hall.specs.Order.{IsClaimable};
+ghost use Rattle.tc_hall.specs.Closing.{IsEnd};
 ghost use Rattle.tc_hall.specs.Made.{IsHallOf, AreDealt, AreStocked};
 
 use crate::board::{CLOCK, Cargo, HallTable, HallTerms, STOP, Slot, word_of};
@@ -245,6 +248,7 @@ impl Hall {
     pub fn join(&self, pass: &mut Pass, other: Pass)
         requires own { (pass.old.table ≡ self.now.table) × (other.table ≡ self.now.table) }
         requires free { IsFree other.knows }
+        requires both { self.now.terms.lined ≡ true → IsFree pass.old.knows }
         ensures own { IsSamePass pass.old pass.new }
         ensures merged { pass.new.knows ≡ merged pass.old.knows other.knows }
     {
@@ -254,7 +258,8 @@ impl Hall {
 
     /// Ends the hall. It returns all packages and all lock states, in order of number, as the
     /// history of all sealed blocks leaves them. The stamps in the logs are 0, 1, 2 and so on, each
-    /// once. Each lock state is strict. It goes over the slots, and allocates nothing.
+    /// once. Each lock state is strict. That history is what the operations of all passes sealed, in
+    /// their one order. It goes over the slots, and allocates nothing.
     pub fn close(self, pass: Pass) -> Closed
         requires last { IsLast self pass }
         requires done { HasSeenAll (threads self.terms) pass.knows }
@@ -296,6 +301,8 @@ impl Hall {
         requires picked { J.terms ≡ Some self.now.terms }
         requires thread { t < threads self.now.terms }
         requires code { IsClaimable self.now.terms code }
+        requires stands { IfLined self.now.terms pass.old.knows
+            (ClaimsAs pass.old.knows t (place_of code)) }
         ensures own { IsSamePass pass.old pass.new }
         ensures result { MatchResult result
             (λ p. Gets code t p pass.old.knows pass.new.knows)
@@ -323,6 +330,8 @@ impl Hall {
     pub fn claim(&self, pass: &mut Pass, t: u32, from: Origin) -> Result<Package, NotReady>
         requires own { pass.old.table ≡ self.now.table }
         requires thread { t < threads self.now.terms }
+        requires stands { IfLined self.now.terms pass.old.knows
+            (ClaimsAs pass.old.knows t (place_of (origin_code from))) }
         ensures own { IsSamePass pass.old pass.new }
         ensures result { MatchResult result
             (λ p. Gets (origin_code from) t p pass.old.knows pass.new.knows)
@@ -343,6 +352,8 @@ impl Hall {
         requires own { pass.old.table ≡ self.now.table }
         requires thread { t < threads self.now.terms }
         requires lock { lock < locks self.now.terms }
+        requires stands { IfLined self.now.terms pass.old.knows
+            (ClaimsAs pass.old.knows t (Waiting lock)) }
         ensures own { IsSamePass pass.old pass.new }
         ensures result { MatchResult result
             (λ p. Gets (WAITING + lock) t p pass.old.knows pass.new.knows)
@@ -363,9 +374,11 @@ impl Hall {
     fn put_as<J: Under>(&self, pass: &mut Pass, package: Package, place: Place)
         requires own { pass.old.table ≡ self.now.table }
         requires picked { J.terms ≡ Some self.now.terms }
-        requires thread { «package».context.thread < threads self.now.terms }
-        requires place { IsInRange (locks self.now.terms) place }
+        requires places { («package».context.thread < threads self.now.terms)
+            × IsInRange (locks self.now.terms) place }
         requires ready { MayPut place pass.old.knows «package» }
+        requires stands { IfLined self.now.terms pass.old.knows
+            (PutsAs pass.old.knows «package» place) }
         ensures own { IsSamePass pass.old pass.new }
         ensures put { Gave place «package» pass.old.knows pass.new.knows }
         ensures left { IsAsLeft self.now.terms pass.old.knows «package» }
@@ -391,6 +404,8 @@ impl Hall {
         requires thread { «package».context.thread < threads self.now.terms }
         requires place { IsInRange (locks self.now.terms) place }
         requires ready { MayPut place pass.old.knows «package» }
+        requires stands { IfLined self.now.terms pass.old.knows
+            (PutsAs pass.old.knows «package» place) }
         ensures own { IsSamePass pass.old pass.new }
         ensures put { Gave place «package» pass.old.knows pass.new.knows }
         ensures left { IsAsLeft self.now.terms pass.old.knows «package» }
@@ -403,6 +418,7 @@ impl Hall {
         requires own { pass.old.table ≡ self.now.table }
         requires picked { J.terms ≡ Some self.now.terms }
         requires lock { lock < locks self.now.terms }
+        requires stands { IfLined self.now.terms pass.old.knows (TakesAs pass.old.knows lock) }
         ensures own { IsSamePass pass.old pass.new }
         ensures result { MatchResult result
             (λ l. Takes lock l pass.old.knows pass.new.knows)
@@ -427,6 +443,7 @@ impl Hall {
     pub fn take(&self, pass: &mut Pass, lock: u32) -> Result<LockState, LockOut>
         requires own { pass.old.table ≡ self.now.table }
         requires lock { lock < locks self.now.terms }
+        requires stands { IfLined self.now.terms pass.old.knows (TakesAs pass.old.knows lock) }
         ensures own { IsSamePass pass.old pass.new }
         ensures result { MatchResult result
             (λ l. Takes lock l pass.old.knows pass.new.knows)
@@ -443,6 +460,8 @@ impl Hall {
         requires own { pass.old.table ≡ self.now.table }
         requires lock { lock.number < locks self.now.terms }
         requires ready { MayFree pass.old.knows lock }
+        requires stands { IfLined self.now.terms pass.old.knows
+            (FreesAs pass.old.knows lock.number) }
         ensures own { IsSamePass pass.old pass.new }
         ensures freed { Freed lock pass.old.knows pass.new.knows }
     {
@@ -494,6 +513,8 @@ impl Hall {
         requires own { pass.old.table ≡ self.now.table }
         requires picked { J.picked ≡ Some «package».now }
         requires ready { Seals pass.old.knows «package».now }
+        requires stands { IfLined self.now.terms pass.old.knows
+            (SealsPending pass.old.knows «package».now) }
         ensures own { IsSamePass pass.old pass.new }
         ensures seals { DidSeal «package».now result pass.old.knows pass.new.knows }
     {
@@ -509,6 +530,8 @@ impl Hall {
     pub fn commit(&self, pass: &mut Pass, package: &mut Package) -> u64
         requires own { pass.old.table ≡ self.now.table }
         requires ready { Seals pass.old.knows «package».old }
+        requires stands { IfLined self.now.terms pass.old.knows
+            (SealsPending pass.old.knows «package».old) }
         ensures own { IsSamePass pass.old pass.new }
         ensures seals { DidSeal «package».old result pass.old.knows pass.new.knows }
         ensures context { «package».new ≡ with_seal result pass.old.knows.worker «package».old }

@@ -12,10 +12,12 @@
 //!
 //! - `specs/Order.antt`: the invariant of the table, a total order of all operations.
 //!   `specs/Rule.antt`: what holds between any two of them. `specs/Steps.antt`: what each call says
-//!   of its pass. `specs/Effects.antt`: the effect of each kind of operation on the table.
+//!   of its pass. `specs/Standing.antt`: what the calls of a pass show of the line of a lock, and what
+//!   each call asks of it. `specs/Effects.antt`: the effect of each kind of operation on the table.
 //!   `specs/Outline.antt`, `specs/Shown.antt`, `specs/Ties.antt`: the simulation of an operation by
 //!   the machine of tc_core; `specs/Lift.antt`: that of a whole order. `specs/Made.antt`: what
-//!   `new` makes. `specs/Places.antt`: the words of the places. `specs/PassView.antt`: passes and
+//!   `new` makes. `specs/Closing.antt`: what `close` gives, with the order that sealed its history.
+//!   `specs/Places.antt`: the words of the places. `specs/PassView.antt`: passes and
 //!   halls as contracts see them.
 //! - `hall`: halls and their calls. `pass`: a worker's access token. `place`: where packages are
 //!   put and from where they are claimed. `closed`: what a hall had at its end.
@@ -34,9 +36,9 @@
 //!   hall represents) and `Outlines` (how events change it).
 //! - The calls of a hall: `Stepping`, each step is an operation; `Holding` and `Putting`, what is
 //!   done with a slot that was taken; `Outs`, what is out; `Left`, what is in a slot; `Waiting` for
-//!   `adopt` and `Ended` for `close`.
-//! - For the crates above: `Behind`, `Crossing` and `Dealt`. For all: `Cases`, `LockLists`, and
-//!   `Vocabulary`, which has the shared definitions.
+//!   `adopt`; `Ended` and, for the order, `OneOrder` for `close`.
+//! - For the crates above: `Behind`, `Crossing`, `Dealt`, `Standing`, `Stops` and `Turns`. For all:
+//!   `Cases`, `LockLists`, and `Vocabulary`, which has the shared definitions.
 #![tactic(auto)]
 
 pub mod board;

@@ -14,6 +14,7 @@ ghost use Rattle.tc_queue.specs.Calls.{IsTail, IsLink, enter_call, next_call, le
 ghost use Rattle.tc_hall.specs.declared.board.PassCall.TheVariants.{Line as Line_call};
 ghost use Rattle.tc_hall.specs.Lines.{IsAsked, MayStand, MayLinkAt, tail_word_of, link_word_of};
 ghost use Rattle.tc_hall.specs.Rule.{threads, locks};
+ghost use Rattle.tc_hall.specs.Standing.{IfLined, EntersAs, LinksAs, StandsAs, loose};
 ghost use Rattle.tc_hall.specs.Steps.{IsSamePass, with_call};
 ghost use Rattle.tc_queue.specs.Asked.{enter as Ask_enter, link as Ask_link};
 ghost use Rattle.tc_queue.specs.Asked.{next as Ask_next, leave as Ask_leave};
@@ -47,6 +48,8 @@ impl Hall {
     pub fn enter(&self, pass: &mut Pass, lock: u32, turn: Turn) -> Entered
         requires own { pass.old.table ≡ self.now.table }
         requires may { MayStand self.now.terms lock turn }
+        requires stands { IfLined self.now.terms pass.old.knows
+            (EntersAs pass.old.knows lock turn) }
         ensures own { IsSamePass pass.old pass.new }
         ensures call { pass.new.knows
             ≡ with_call pass.old.knows (Line_call lock (Enter turn result)) }
@@ -62,6 +65,8 @@ impl Hall {
     pub fn link(&self, pass: &mut Pass, lock: u32, before: Turn, own: Turn)
         requires own { pass.old.table ≡ self.now.table }
         requires may { MayLinkAt self.now.terms pass.old.knows lock before own }
+        requires stands { IfLined self.now.terms pass.old.knows
+            (LinksAs pass.old.knows lock own) }
         ensures own { IsSamePass pass.old pass.new }
         ensures call { pass.new.knows
             ≡ with_call pass.old.knows (Line_call lock (Link before own)) }
@@ -73,6 +78,8 @@ impl Hall {
     pub fn next(&self, pass: &mut Pass, lock: u32, own: Turn) -> Option<Turn>
         requires own { pass.old.table ≡ self.now.table }
         requires may { MayStand self.now.terms lock own }
+        requires stands { IfLined self.now.terms pass.old.knows
+            (StandsAs pass.old.knows lock (loose own)) }
         ensures own { IsSamePass pass.old pass.new }
         ensures call { pass.new.knows
             ≡ with_call pass.old.knows (Line_call lock (Next own result)) }
@@ -88,6 +95,8 @@ impl Hall {
     pub fn leave(&self, pass: &mut Pass, lock: u32, own: Turn) -> Leave
         requires own { pass.old.table ≡ self.now.table }
         requires may { MayStand self.now.terms lock own }
+        requires stands { IfLined self.now.terms pass.old.knows
+            (StandsAs pass.old.knows lock (loose own)) }
         ensures own { IsSamePass pass.old pass.new }
         ensures call { pass.new.knows
             ≡ with_call pass.old.knows (Line_call lock (Leave_call own result)) }
@@ -102,6 +111,8 @@ impl Hall {
     fn swap_tail<J: Asking>(&self, pass: &mut Pass, lock: u32, turn: &Turn) -> Option<Turn>
         requires own { pass.old.table ≡ self.now.table }
         requires may { MayStand self.now.terms lock turn.now }
+        requires stands { IfLined self.now.terms pass.old.knows
+            (EntersAs pass.old.knows lock turn.now) }
         requires asked { IsAsked (threads self.now.terms) lock (Ask_enter turn.now)
             J.threads J.lock J.ask }
         ensures own { IsSamePass pass.old pass.new }
@@ -118,6 +129,8 @@ impl Hall {
     fn store_link<J: Asking>(&self, pass: &mut Pass, lock: u32, before: &Turn, own: &Turn)
         requires own { pass.old.table ≡ self.now.table }
         requires may { MayLinkAt self.now.terms pass.old.knows lock before.now own.now }
+        requires stands { IfLined self.now.terms pass.old.knows
+            (LinksAs pass.old.knows lock own.now) }
         requires asked { IsAsked (threads self.now.terms) lock (Ask_link before.now own.now)
             J.threads J.lock J.ask }
         ensures own { IsSamePass pass.old pass.new }
@@ -136,6 +149,8 @@ impl Hall {
     fn load_link<J: Asking>(&self, pass: &mut Pass, lock: u32, own: &Turn) -> Option<Linked>
         requires own { pass.old.table ≡ self.now.table }
         requires may { MayStand self.now.terms lock own.now }
+        requires stands { IfLined self.now.terms pass.old.knows
+            (StandsAs pass.old.knows lock (loose own.now)) }
         requires asked { IsAsked (threads self.now.terms) lock (Ask_next own.now)
             J.threads J.lock J.ask }
         ensures own { IsSamePass pass.old pass.new }
@@ -152,6 +167,8 @@ impl Hall {
     fn clear_tail<J: Asking>(&self, pass: &mut Pass, lock: u32, own: &Turn) -> Option<Turn>
         requires own { pass.old.table ≡ self.now.table }
         requires may { MayStand self.now.terms lock own.now }
+        requires stands { IfLined self.now.terms pass.old.knows
+            (StandsAs pass.old.knows lock (loose own.now)) }
         requires asked { IsAsked (threads self.now.terms) lock (Ask_leave own.now)
             J.threads J.lock J.ask }
         ensures own { IsSamePass pass.old pass.new }

@@ -1,4 +1,4 @@
-ghost use Rattle.std.specs.Prelude.{◌≡◌, IfOk};
+ghost use Rattle.std.specs.Prelude.{◌≡◌, IfOk, false};
 ghost use Rattle.tc_hall.specs.Rule.{threads, locks};
 
 use crate::guests::{TWO_THREADS, image_of};
@@ -16,6 +16,7 @@ use tc_hall::place::Origin;
 fn open<R: Abort>(rt: &R, alloc: Global) -> Result<(Hall, Pass, Pass), Fail>
     ensures two { IfOk result (λ r. threads r.0.terms ≡ 2) }
     ensures one { IfOk result (λ r. locks r.0.terms ≡ 1) }
+    ensures apart { IfOk result (λ r. r.0.terms.lined ≡ false) }
     ensures own { IfOk result (λ r. (r.1.table ≡ r.0.table) × (r.2.table ≡ r.0.table)) }
 {
     let image = image_of(alloc, &TWO_THREADS)?;
@@ -39,6 +40,7 @@ fn look_around<R: Abort>(rt: &R, hall: &Hall, pass: &mut Pass, words: [u64; 2])
 fn miss_lock<R: Abort>(rt: &R, hall: &Hall, pass: &mut Pass)
     requires two { threads hall.now.terms ≡ 2 }
     requires one { locks hall.now.terms ≡ 1 }
+    requires apart { hall.now.terms.lined ≡ false }
     requires own { pass.old.table ≡ hall.now.table }
     ensures own { pass.new.table ≡ hall.now.table }
 {
@@ -53,6 +55,7 @@ fn miss_lock<R: Abort>(rt: &R, hall: &Hall, pass: &mut Pass)
 fn miss_threads<R: Abort>(rt: &R, hall: &Hall, pass: &mut Pass)
     requires two { threads hall.now.terms ≡ 2 }
     requires one { locks hall.now.terms ≡ 1 }
+    requires apart { hall.now.terms.lined ≡ false }
     requires own { pass.old.table ≡ hall.now.table }
     ensures own { pass.new.table ≡ hall.now.table }
 {
@@ -73,6 +76,7 @@ fn miss_threads<R: Abort>(rt: &R, hall: &Hall, pass: &mut Pass)
 fn see_words<R: Abort>(rt: &R, hall: &Hall, zero: &mut Pass, other: &mut Pass)
     requires two { threads hall.now.terms ≡ 2 }
     requires one { locks hall.now.terms ≡ 1 }
+    requires apart { hall.now.terms.lined ≡ false }
     requires own { (zero.old.table ≡ hall.now.table) × (other.old.table ≡ hall.now.table) }
 {
     assert!(rt; zero.worker() == 0 && other.worker() == 1);
@@ -104,6 +108,7 @@ fn words_are_seen(rt: HostRuntime) -> Result<(), Fail> {
 /// Claims thread 0, and returns the word that was read if that failed.
 fn refused(hall: &Hall, mut pass: Pass) -> Option<u64>
     requires two { threads hall.now.terms ≡ 2 }
+    requires apart { hall.now.terms.lined ≡ false }
     requires own { pass.table ≡ hall.now.table }
 {
     match hall.claim(&mut pass, 0, Origin::Ready) {
@@ -115,16 +120,19 @@ fn refused(hall: &Hall, mut pass: Pass) -> Option<u64>
 /// Claims thread 0 from two threads of the host at once.
 fn race<R: Threads>(rt: &R, hall: &Hall, zero: Pass, other: Pass) -> (Option<u64>, Option<u64>)
     requires two { threads hall.now.terms ≡ 2 }
+    requires apart { hall.now.terms.lined ≡ false }
     requires own { (zero.table ≡ hall.now.table) × (other.table ≡ hall.now.table) }
 {
     thread::join(
         rt,
         move || -> Option<u64>
             requires two { threads hall.now.terms ≡ 2 }
+            requires apart { hall.now.terms.lined ≡ false }
             requires own { zero.table ≡ hall.now.table }
         { refused(hall, zero) },
         move || -> Option<u64>
             requires two { threads hall.now.terms ≡ 2 }
+            requires apart { hall.now.terms.lined ≡ false }
             requires own { other.table ≡ hall.now.table }
         { refused(hall, other) },
     )

@@ -1,5 +1,6 @@
 ghost use Rattle.std.specs.Prelude.{◌≡◌, IfOk, true};
 ghost use Rattle.tc_hall.specs.Rule.{threads, locks};
+ghost use Rattle.tc_hall.specs.Steps.{HasStop};
 
 use crate::counting::turn;
 use crate::guests::{TWO_THREADS, image_of};
@@ -26,12 +27,14 @@ fn open<R: Abort>(rt: &R, alloc: Global) -> Result<(Hall, Pass, Pass), Fail>
     Ok((hall, zero, other))
 }
 
-/// Pass 0 makes its calls for thread 0, and pass 1 for thread 1.
+/// Pass 0 makes its calls for thread 0, and pass 1 for thread 1. Both have no package: after a stop
+/// no call asks for one.
 fn take_turns<R: Abort>(rt: &R, hall: &Hall, zero: &mut Pass, one: &mut Pass)
     requires two { threads hall.now.terms ≡ 2 }
     requires one { locks hall.now.terms ≡ 1 }
     requires lined { hall.now.terms.lined ≡ true }
     requires own { (zero.old.table ≡ hall.now.table) × (one.old.table ≡ hall.now.table) }
+    requires stopped { HasStop zero.old.knows × HasStop one.old.knows }
 {
     let (first, second) = (turn(0, 1), turn(1, 1));
     assert!(rt; hall.enter(zero, 0, first) == Entered::First);
@@ -52,6 +55,8 @@ fn take_turns<R: Abort>(rt: &R, hall: &Hall, zero: &mut Pass, one: &mut Pass)
 #[test]
 fn a_line_has_turns_of_two_passes(rt: HostRuntime) -> Result<(), Fail> {
     let (hall, mut zero, mut one) = open(&rt, rt.alloc())?;
+    hall.stop(&mut zero);
+    hall.stop(&mut one);
     take_turns(&rt, &hall, &mut zero, &mut one);
     Ok(())
 }

@@ -35,7 +35,7 @@ use Rattle.tc_context.proofs.Staging.{both_ways, some_of, closed_none}
 use Rattle.tc_context.proofs.Running.{entered_rest, block_follows, block_passes, sealed_at}
 use Rattle.tc_mutex_spec.proofs.EntriesAlike.{entry_same}
 
-first_is : (h : List Block) (t : ℕ) (log : List Block) → of_thread h t ≡ log → is_first (kind_of None log) ≡ not (has_block h t)
+pub first_is : (h : List Block) (t : ℕ) (log : List Block) → of_thread h t ≡ log → is_first (kind_of None log) ≡ not (has_block h t)
 first_is h t [] e = ap not (sym (seen_none h t e))
 first_is h t (b ∷ log) e = ap not (sym (seen_some h t b log e))
 

@@ -1,5 +1,6 @@
 -- What a call on an order of waiters says of the pass beside it.
 use Rattle.std.specs.Prelude.{◌≡◌, ℕ, ◌<◌, Bool, true, false, List, [], ◌∷◌, ◌++◌, get_or, length}
+use mathlib.Core.Path.{sym, subst}
 use Rattle.tc_queue.specs.declared.turn.Turn.{Turn}
 use Rattle.tc_queue.specs.declared.turn.Arrival.{Arrival}
 use Rattle.tc_queue.specs.declared.turn.Arrival.TheVariants.{First, Behind}
@@ -60,3 +61,18 @@ hall_notes lock call cs = (c : QueueCall) × (call_as c ≡ call) × (cs ≡ Lin
 
 abbrev pub LinksInHall : ℕ → ℕ → PassView → Turn → Turn → Type 0
 LinksInHall lock n p before u = IsTurn n before × MayLink (lines_of lock p.knows.calls) u before
+
+pub noted_there : (lock i : ℕ) (c : LineCall) (cs : List PassCall) → lock ≡ i → hall_notes lock c cs → hall_notes i c cs
+noted_there lock i c cs same notes = subst (λ (j : ℕ). hall_notes j c cs) same notes
+
+pub same_lock : (lock i j : ℕ) → lock ≡ i → lock ≡ j → i ≡ j
+same_lock lock i j one other = subst (λ (n : ℕ). n ≡ j) one other
+
+-- ---- apart from a hall with lines
+
+abbrev pub OnlyFalse : Bool → Type 0
+OnlyFalse true = ⊥
+OnlyFalse false = Unit {0}
+
+pub never_both : (b : Bool) → b ≡ false → b ≡ true → ⊥
+never_both b f t = subst OnlyFalse t (subst OnlyFalse (sym f) tt)

@@ -1,8 +1,8 @@
 //! Any order of waiters, apart from the hall.
 
-ghost use Rattle.std.specs.Prelude.{◌≡◌};
+ghost use Rattle.std.specs.Prelude.{◌≡◌, false};
 ghost use Rattle.tc_queue.specs.Lines.{MayLinkWith};
-ghost use Rattle.tc_order.specs.Order.{no_notes};
+ghost use Rattle.tc_order.specs.Order.{never_both, no_notes};
 
 use crate::order::Order;
 use std::sync::Wait;
@@ -10,7 +10,7 @@ use tc_hall::hall::Hall;
 use tc_hall::pass::Pass;
 use tc_queue::{Arrival, Departure, Turn, Waiters};
 
-/// A queue that is apart from the hall.
+/// A queue that is apart from the hall, which has no lines.
 #[derive(Drop)]
 pub struct Apart<Q: Waiters + Drop> {
     /// The queue.
@@ -28,13 +28,17 @@ impl<Q: Waiters + Drop> Order for Apart<Q> {
 
     ghost mark = { Q.mark };
 
-    ghost fits = { λ a h. Unit {0} };
+    ghost fits = { λ a h. h.terms.lined ≡ false };
 
     ghost of = { λ a i. Unit {0} };
 
     ghost notes = { λ a. no_notes };
 
     ghost links = { λ a p s place u. MayLinkWith (Q.queue a.queue) (Q.seen s) u (Q.mark place) };
+
+    ghost lined = { λ a h i c cs apart of lined notes. absurd (never_both h.terms.lined apart lined) };
+
+    ghost alone = { λ a h i j apart one other lined. absurd (never_both h.terms.lined apart lined) };
 
     fn enter(&self, _: &Hall, _: &mut Pass, seat: &mut Q::Seat, turn: Turn) -> Arrival<Q::Place> {
         self.queue.enter(seat, turn)

@@ -4,7 +4,7 @@ ghost use Rattle.std.specs.Prelude.{◌≡◌, ◌<◌, ◌≤◌, All, IfOk, le
 ghost use Rattle.tc_queue.specs.View.{IsOwnSeatOf};
 ghost use Rattle.tc_queue.specs.Lines.{IsSeatOf, seat_as, mark_of};
 ghost use Rattle.tc_hall.specs.Rule.{threads, locks};
-ghost use Rattle.tc_order.specs.Order.{IsLineOf, LinksInHall, hall_notes};
+ghost use Rattle.tc_order.specs.Order.{IsLineOf, LinksInHall, hall_notes, noted_there, same_lock};
 
 use crate::order::Order;
 use std::alloc::{AllocError, Global};
@@ -58,6 +58,10 @@ impl Order for InHall {
     ghost notes = { λ l. hall_notes l.lock };
 
     ghost links = { λ l p s. LinksInHall l.lock l.seats.threads p };
+
+    ghost lined = { λ l h i c cs fits of lined notes. noted_there l.lock i c cs of notes };
+
+    ghost alone = { λ l h i j fits one other lined. same_lock l.lock i j one other };
 
     fn enter(
         &self,

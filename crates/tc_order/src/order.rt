@@ -1,6 +1,6 @@
 //! An order of the waiters of a lock.
 
-ghost use Rattle.std.specs.Prelude.{ℕ, ◌≡◌, Some, List};
+ghost use Rattle.std.specs.Prelude.{ℕ, ◌≡◌, Some, List, true};
 ghost use Rattle.tc_queue.specs.declared.turn.Turn.{Turn};
 ghost use Rattle.tc_queue.specs.Words.{IsTurn};
 ghost use Rattle.tc_queue.specs.View.{QueueView};
@@ -8,7 +8,8 @@ ghost use Rattle.tc_queue.specs.Lines.{SeatView, LineCall, Enter, Link, Next, Le
 ghost use Rattle.tc_queue.specs.Lines.{MayCall, with_line, answer};
 ghost use Rattle.tc_hall.specs.PassView.{HallView, PassView};
 ghost use Rattle.tc_hall.specs.declared.board.PassCall.{PassCall};
-ghost use Rattle.tc_order.specs.Order.{IsLinkableThen, Told};
+ghost use Rattle.tc_hall.specs.Standing.{IfLined, EntersAs, LinksAs, StandsAs, loose};
+ghost use Rattle.tc_order.specs.Order.{IsLinkableThen, Told, hall_notes};
 
 use std::sync::Wait;
 use tc_hall::hall::Hall;
@@ -56,6 +57,8 @@ pub trait Order: Sync {
     ) -> Arrival<Self::Place>
         requires own { (pass.old.table ≡ hall.now.table) × fits self.now hall.now }
         requires may { MayCall (queue self.now) (seen seat.old) turn }
+        requires stands { (i : ℕ) → of self.now i → IfLined hall.now.terms pass.old.knows
+            (EntersAs pass.old.knows i turn) }
         ensures call { seen seat.new ≡ with_line (seen seat.old) (Enter turn (answer mark result)) }
         ensures told { Told (notes self.now (Enter turn (answer mark result))) pass.old pass.new }
         ensures may { IsLinkableThen (λ p place. links self.now p seat.new place turn)
@@ -73,6 +76,8 @@ pub trait Order: Sync {
         requires own { (pass.old.table ≡ hall.now.table) × fits self.now hall.now }
         requires may { MayCall (queue self.now) (seen seat.old) own }
         requires linked { links self.now pass.old seat.old place own }
+        requires stands { (i : ℕ) → of self.now i → IfLined hall.now.terms pass.old.knows
+            (LinksAs pass.old.knows i own) }
         ensures call { seen seat.new ≡ with_line (seen seat.old) (Link (mark place) own) }
         ensures told { Told (notes self.now (Link (mark place) own)) pass.old pass.new };
 
@@ -87,6 +92,8 @@ pub trait Order: Sync {
     ) -> Option<Turn>
         requires own { (pass.old.table ≡ hall.now.table) × fits self.now hall.now }
         requires may { MayCall (queue self.now) (seen seat.old) own }
+        requires stands { (i : ℕ) → of self.now i → IfLined hall.now.terms pass.old.knows
+            (StandsAs pass.old.knows i (loose own)) }
         ensures call { seen seat.new ≡ with_line (seen seat.old) (Next own result) }
         ensures told { Told (notes self.now (Next own result)) pass.old pass.new }
         ensures turn { (u : Turn) → result ≡ Some u → IsTurn (queue self.now).threads u };
@@ -102,6 +109,17 @@ pub trait Order: Sync {
     ) -> Departure
         requires own { (pass.old.table ≡ hall.now.table) × fits self.now hall.now }
         requires may { MayCall (queue self.now) (seen seat.old) own }
+        requires stands { (i : ℕ) → of self.now i → IfLined hall.now.terms pass.old.knows
+            (StandsAs pass.old.knows i (loose own)) }
         ensures call { seen seat.new ≡ with_line (seen seat.old) (Leave own result) }
         ensures told { Told (notes self.now (Leave own result)) pass.old pass.new };
+
+    /// In a hall with lines a call notes in the list of the pass that it was made on the line of its
+    /// lock, and nothing else.
+    ghost lined: { (a : Self) (h : HallView) (i : ℕ) (c : LineCall) (cs : List PassCall) → fits a h
+        → of a i → h.terms.lined ≡ true → notes a c cs → hall_notes i c cs };
+
+    /// In such a hall it is the order of one lock.
+    ghost alone: { (a : Self) (h : HallView) (i j : ℕ) → fits a h → of a i → of a j
+        → h.terms.lined ≡ true → i ≡ j };
 }

@@ -97,7 +97,7 @@ linked_was_entered n (m ∷ before) t l legal e = still_entered m before l.behin
 
 -- ---- what `next` answered was entered
 
-answered : (u : Turn) (link : Option Linked) (x : Turn) → answer_to_next u link ≡ Some x → (l : Linked) × (link ≡ Some l) × (l.before ≡ u.number) × (l.behind ≡ x)
+pub answered : (u : Turn) (link : Option Linked) (x : Turn) → answer_to_next u link ≡ Some x → (l : Linked) × (link ≡ Some l) × (l.before ≡ u.number) × (l.behind ≡ x)
 answered u None x e = absurd (none-some x e)
 answered u (Some l) x e = by_test (l.before == u.number) refl
   where

@@ -68,7 +68,7 @@ pub record IsNext (image : Shown) (limits : Limits) (seen : List Block) (m : Sta
   pub held : b.held < 2 ^ 32
   pub worker : b.worker < limits.workers
 
-same_sets : (a b : ℕ) → ((k : ℕ) → has a k ≡ has b k) → a ≡ b
+pub same_sets : (a b : ℕ) → ((k : ℕ) → has a k ≡ has b k) → a ≡ b
 same_sets a b same = same_from_bits a b (λ k. same_bit (bit_at a k) (bit_at b k) (bit_at-lt a k) (bit_at-lt b k) (same k))
 
 pub held_with_has : (h : ℕ) (held : ℕ → Bool) (next : Option ℕ) (k : ℕ) → has h k ≡ held k → has (held_with h next) k ≡ locks_of_block held next k

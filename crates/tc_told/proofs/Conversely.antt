@@ -260,14 +260,14 @@ ruled_next image limits fuel base s (HandBack w t) on few is = (base, moved imag
 ruled_next image limits fuel base s (Park w t) on few is = (base, moved image limits fuel base s is (Park w t) on refl refl refl refl)
 ruled_next image limits fuel base s (Finish w t) on few is = (base, moved image limits fuel base s is (Finish w t) on refl refl refl refl)
 
-ruled_all : (image : Shown) (limits : Limits) (fuel : ℕ) (es : List Event) (base : State) (s : Written) → AreEnabled image limits s.core es → length image.guards ≤ 32 → Ruled image limits fuel base s
+pub ruled_all : (image : Shown) (limits : Limits) (fuel : ℕ) (es : List Event) (base : State) (s : Written) → AreEnabled image limits s.core es → length image.guards ≤ 32 → Ruled image limits fuel base s
     → (more : State) × Ruled image limits fuel more (write_all image s es)
 ruled_all image limits fuel [] base s on few is = (base, is)
 ruled_all image limits fuel (e ∷ es) base s on few is =
     let r = ruled_next image limits fuel base s e on.0 few is in
     ruled_all image limits fuel es r.0 (write image s e) on.1 few r.1
 
-first_ruled : (image : Shown) (limits : Limits) (fuel : ℕ) → Ruled image limits fuel (start image fuel) (first_written image fuel)
+pub first_ruled : (image : Shown) (limits : Limits) (fuel : ℕ) → Ruled image limits fuel (start image fuel) (first_written image fuel)
 first_ruled image limits fuel = record {
   keeps = first_keeps image fuel;
   tracks = first_tracked image fuel;

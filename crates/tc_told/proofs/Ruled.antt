@@ -299,7 +299,7 @@ module _ (image : Shown) (limits : Limits) (fuel : ℕ) (base : State) (s : Writ
   -- ---- a turn
 
   -- a thread between its blocks is as its blocks left it
-  base_thread : (u : ℕ) → (at u).turns ≡ 0 → base.threads u ≡ s.core.machine.threads u
+  pub base_thread : (u : ℕ) → (at u).turns ≡ 0 → base.threads u ≡ s.core.machine.threads u
   unfolding done_of
   base_thread u e = ap (λ n. (reach image base u n).threads u) (sym e) ∙ (is.keeps.gathers.part u).thread
 

@@ -86,14 +86,20 @@ pub record IsOwnStore (image : Shown) (kind : StoreKind) (addr value : ℕ) (old
   pub own : IsTouched image (has old.held) addr (store_width kind) touched.Own
   pub after : thread_of new ≡ stored kind addr value (thread_of old)
 
--- so many bytes are of a guard, and this number is to be in them
-pub record IsGuardStore (image : Shown) (kind : StoreKind) (addr value : ℕ) (old new : Guest) (lock bytes n : ℕ) : Type 0 where
-  pub guard : IsTouched image (has old.held) addr (store_width kind) (touched.Guard lock)
-  pub width : bytes ≡ store_width kind
-  pub number : n ≡ value % 2 ^ (8 * store_width kind)
+-- bytes of the lock's guard, and the number that they are to have
+pub record GuardBytes : Type 0 where
+  pub lock : ℕ
+  pub width : ℕ
+  pub number : ℕ
+
+-- these bytes are to be written, and nothing was done yet
+pub record IsGuardStore (image : Shown) (kind : StoreKind) (addr value : ℕ) (old new : Guest) (bytes : GuardBytes) : Type 0 where
+  pub guard : IsTouched image (has old.held) addr (store_width kind) (touched.Guard bytes.lock)
+  pub width : bytes.width ≡ store_width kind
+  pub number : bytes.number ≡ value % 2 ^ (8 * store_width kind)
   pub rest : new ≡ old
 
 abbrev pub HasStored : Shown → StoreKind → ℕ → ℕ → Guest → Guest → Stored → Type 0
 HasStored image kind addr value old new stores.Stays = new ≡ old
 HasStored image kind addr value old new stores.Own = IsOwnStore image kind addr value old new
-HasStored image kind addr value old new (stores.Guard lock width number) = IsGuardStore image kind addr value old new lock width number
+HasStored image kind addr value old new (stores.Guard lock width number) = IsGuardStore image kind addr value old new (record { lock = lock; width = width; number = number })

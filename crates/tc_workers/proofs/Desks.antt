@@ -19,8 +19,9 @@ use Rattle.tc_hall.specs.Outs.{Outs, Item, Pack, nothing}
 use Rattle.tc_hall.specs.declared.place.Origin.{Origin}
 use Rattle.tc_hall.specs.declared.place.Place.TheVariants.{Ready}
 use Rattle.tc_hall.specs.PassView.{PassView}
-use Rattle.tc_hall.specs.Places.{origin_code}
+use Rattle.tc_hall.specs.Places.{origin_code, place_of}
 use Rattle.tc_hall.specs.Rule.{grants_adopted, is_pinned, last_by, threads}
+use Rattle.tc_hall.specs.Standing.{ClaimsAs, IfLined}
 use Rattle.tc_hall.specs.Steps.{DidSeal, Gets, IsGrantedBehind, IsSamePass, put_call}
 use Rattle.tc_hall.proofs.Behind.{behind_any, comes_behind, nothing_behind, same_last, together_same, together_uncut}
 use Rattle.tc_park.specs.Order.{without}
@@ -30,7 +31,8 @@ use Rattle.tc_combiner.specs.declared.settled.Settled.{Settled}
 use Rattle.tc_combiner.specs.declared.settled.Settled.TheVariants.{GoesOn, Adopted, Parked as Did_park, Stopped as Was_stopped}
 use Rattle.tc_combiner.specs.Answers.{carried, counted, next_turn}
 use Rattle.tc_combiner.specs.Packages.{DidTake, HoldsNone, IsGoodFor}
-use Rattle.tc_combiner.specs.Settling.{DidAcquire, DidUnlock, HasAcquired, HasSettled, Keeps, MayCommit, MaySettle, MovesSealed, SettledAs}
+use Rattle.tc_combiner.specs.Stances.{KnowsLines}
+use Rattle.tc_combiner.specs.Settling.{DidAcquire, DidUnlock, HasAcquired, HasSettled, Keeps, KeepsSealed, MayCommit, MaySettle, SettledAs, StandsAfter}
 use Rattle.tc_combiner.specs.View.{BenchView, DeskView, FitsBench}
 use Rattle.tc_combiner.specs.Walks.{HasSeenStop, Owned, Owns, packed}
 use Rattle.tc_combiner.proofs.Answering.{good_after}
@@ -42,6 +44,7 @@ use Rattle.tc_workers.specs.StepWith.{MayRun, RanOne, step_of}
 use Rattle.tc_workers.specs.Search.{MaySearch}
 use Rattle.tc_workers.specs.Worker.{HasClaimed, HasOut, HasSealed, IsAtDesk, IsFit, IsIdle, IsNext, IsSeated, IsStep, IsStill, IsUnmoved, MayAllGoBack, RunsBehind, WorkerView, worker_of}
 use Rattle.tc_workers.proofs.Passes.{claimed_out, origin_runs, still_called, still_same, stop_shown, unmoved_looked}
+use Rattle.tc_workers.proofs.Stances.{claimed_lines, claims_as, lines_still, roomier_lines}
 use Rattle.tc_workers.proofs.Running.{may_commit, may_settle, roomier_good, roomier_out, roomier_want}
 
 abbrev pub with_pass : DeskView → PassView → DeskView
@@ -72,13 +75,14 @@ still_holds P p q s h = subst₂ P (sym s.image) (sym s.worker) h
 pub at_still : (b : BenchView) (hand : Option PackageView) (d : DeskView) (p : PassView) → IsAtDesk b hand d → IsUnmoved d.pass p → IsAtDesk b hand (with_pass d p)
 at_still b hand d p h u = record {
   seat = seat_still b (packed hand) d p h.seat u;
+  lines = lines_still b.hall.terms d.pass p (packed hand ++ packed d.aside) u h.lines;
   fit = still_holds (λ (i : Shown) (w : ℕ). IsFit i w hand) d.pass p u.still h.fit;
   next = subst (λ (o : Option Block). IsNext o hand) (λ i. last_of (of_worker (sym u.sealed i) (sym u.still.worker i))) h.next;
 }
 
 -- the clock and the sleepers count for nothing but their number
 pub other_sleepers : (b : BenchView) (d : DeskView) (s : List (Option ℕ)) (n : ℕ) → IsAtDesk b None d → length s ≡ length d.sleepers → IsAtDesk b None (record d { sleepers = s; now = n })
-other_sleepers b d s n h e = record { seat = seated b [] [] d d.pass s n d.aside h.seat (still_same d.pass) e (λ c f. f) h.seat.out; fit = tt; next = h.next }
+other_sleepers b d s n h e = record { seat = seated b [] [] d d.pass s n d.aside h.seat (still_same d.pass) e (λ c f. f) h.seat.out; lines = h.lines; fit = tt; next = h.next }
 
 pub length_without : (o : Option ℕ) (s : List (Option ℕ)) → length (without o s) ≡ length s
 length_without None s = refl
@@ -120,6 +124,8 @@ aside_seat b d e o h given rest = subst₂ (λ (x : Option PackageView) (z : Des
 pub taken_back : (b : BenchView) (d e : DeskView) (o : Option PackageView) → IsAtDesk b None d → o ≡ d.aside → e ≡ record d { aside = None } → IsAtDesk b o e
 taken_back b d e o h given rest = let at = aside_seat b d e o h.seat given rest in record {
   seat = at.0;
+  lines = subst₂ (λ (x : Option PackageView) (z : DeskView). KnowsLines b.hall.terms z.pass.knows (packed x ++ packed z.aside)) (sym given) (sym rest)
+      (subst (λ (xs : List Item). KnowsLines b.hall.terms d.pass.knows xs) (sym (append-nil (packed d.aside))) h.lines);
   fit = at.1;
   next = aside_next b d (last_by e.pass.knows) o (ap (λ (z : DeskView). was_cut (last_by z.pass.knows)) rest ∙ h.next) (sym given) h.seat.fits;
 }
@@ -131,6 +137,13 @@ idle_none b d e h none rest = record { desk = taken_back b d e None h (sym none)
 pub out_alone : (v : Knows) (xs : List Item) (a : Option PackageView) → a ≡ None → HasOut v (xs ++ packed a) → HasOut v xs
 out_alone v xs a e h = subst (HasOut v) (append-nil xs) (subst (λ (o : Option PackageView). HasOut v (xs ++ packed o)) e h)
 
+pub idle_lines : (b : BenchView) (d : DeskView) → IsIdle b d → KnowsLines b.hall.terms d.pass.knows []
+idle_lines b d h = subst (λ (a : Option PackageView). KnowsLines b.hall.terms d.pass.knows (packed a)) h.free h.desk.lines
+
+-- one may be claimed
+pub may_claim : (b : BenchView) (d : DeskView) (o : PassView) (from : Origin) (t : ℕ) → IsIdle b d → o ≡ d.pass → IfLined b.hall.terms o.knows (ClaimsAs o.knows t (place_of (origin_code from)))
+may_claim b d o from t h is = subst (λ (z : PassView). IfLined b.hall.terms z.knows (ClaimsAs z.knows t (place_of (origin_code from)))) (sym is) (claims_as b.hall.terms d.pass.knows from t (idle_lines b d h))
+
 -- one was claimed
 pub one_claimed : (b : BenchView) (d : DeskView) (o p : PassView) (q : PackageView) (from : Origin) (t : ℕ) → IsIdle b d → o ≡ d.pass → IsSamePass o p → Gets (origin_code from) t q o.knows p.knows → HasClaimed b q (with_pass d p)
 one_claimed b d o p q from t h is own came =
@@ -138,6 +151,7 @@ one_claimed b d o p q from t h is own came =
     let gets = got.1 in
     let out = claimed_out (origin_code from) t q d.pass.knows p.knows (out_alone d.pass.knows [] d.aside h.free h.desk.seat.out) gets in record {
       seat = seated b [] (Pack q ∷ []) d p d.sleepers d.now d.aside h.desk.seat (still_called _ d.pass p got.0 gets.called) refl (λ c e. e) (subst (λ (a : Option PackageView). HasOut p.knows (Pack q ∷ packed a)) (sym h.free) out);
+      lines = subst (λ (a : Option PackageView). KnowsLines b.hall.terms p.knows (Pack q ∷ packed a)) (sym h.free) (claimed_lines b.hall.terms d.pass.knows from t (idle_lines b d h) p.knows q gets);
       free = h.free;
       uncut = ap was_cut (same_last _ d.pass.knows p.knows gets.called) ∙ h.desk.next;
       back = record { of = gets.of ∙ sym gets.called.image; settled = gets.settled; runs = gets.order.runs (origin_runs from); locks = gets.order.own; fits = λ e. gets.fits e p.knows.worker };
@@ -150,6 +164,7 @@ claimed_fits b d q h free =
     let k = h.back in
     let parts = or_parts (grants_adopted q.granted) (was_cut (last_of q.log)) free in record {
       seat = h.seat;
+      lines = h.lines;
       fit = record { of = k.of; settled = k.settled; runs = k.runs; locks = k.locks; fits = k.fits parts.0 };
       next = record { granted = behind_any (last_by d.pass.knows) q.granted parts.0; together = together_uncut (last_by d.pass.knows) (last_of q.log) h.uncut parts.1 };
     }
@@ -158,6 +173,7 @@ claimed_fits b d q h free =
 pub roomier_at : (b : BenchView) (d : DeskView) (p q : PackageView) → IsAtDesk b (Some p) d → IsRoomier p q → IsAtDesk b (Some q) d
 roomier_at b d p q h r = record {
   seat = record { fits = h.seat.fits; sleepers = h.seat.sleepers; out = roomier_out p q r d.pass.knows (packed d.aside) h.seat.out };
+  lines = roomier_lines p q r b.hall.terms d.pass.knows (packed d.aside) h.lines;
   fit = roomier_good p q r d.pass.knows h.fit;
   next = record {
     granted = subst (IsGrantedBehind (last_by d.pass.knows)) (sym r.granted) h.next.granted;
@@ -268,11 +284,11 @@ answer end q x d e s granted aside newest last ended h = by end s ended (settled
     by end r ended still h = ap was_cut still ∙ ap is_cut ended
 
 -- what the worker does after an answer
-stepped : (b : BenchView) (v : Knows) (e : DeskView) (s : Settled) → IsSeated b (carried s) e → IsAnswer v e s → IsStep b e (step_of s)
-stepped b v e (GoesOn p) h a = record { seat = h; fit = a.0; next = a.1 }
-stepped b v e (Adopted p) h a = record { seat = h; fit = a.0; next = a.1 }
-stepped b v e Was_stopped h a = (record { aside = a.1; out = out_alone e.pass.knows [] e.aside a.1 h.out }, stop_shown v e.pass.knows a.0)
-stepped b v e r h a = record { seat = h; fit = tt; next = a }
+stepped : (b : BenchView) (v : Knows) (e : DeskView) (s : Settled) → IsSeated b (carried s) e → StandsAfter b.hall.terms e.pass.knows e.aside s → IsAnswer v e s → IsStep b e (step_of s)
+stepped b v e (GoesOn p) h lines a = record { seat = h; lines = lines; fit = a.0; next = a.1 }
+stepped b v e (Adopted p) h lines a = record { seat = h; lines = lines; fit = a.0; next = a.1 }
+stepped b v e Was_stopped h lines a = (record { aside = a.1; out = out_alone e.pass.knows [] e.aside a.1 h.out }, stop_shown v e.pass.knows a.0)
+stepped b v e r h lines a = record { seat = h; lines = lines; fit = tt; next = a }
 
 module _ (b : BenchView) (q : PackageView) (d e : DeskView) (s : Settled) (keeps : Keeps b q d e s) where
   still_seated : IsSeated b (Pack q ∷ []) d → IsSeated b (carried s) e
@@ -285,10 +301,10 @@ module _ (b : BenchView) (q : PackageView) (d e : DeskView) (s : Settled) (keeps
   pub after_acquire : IsSeated b (Pack q ∷ []) d → IsSoundPackage q → AreTogether (last_by d.pass.knows) (last_of q.log) → HasAcquired q d e s → IsStep b e (step_of s)
   after_acquire h sound both did =
       let before = wants_uncut q did.0 sound did.1 in
-      stepped b d.pass.knows e s (still_seated h) (acquired did.0 q d e s (uncut_too (last_by d.pass.knows) (last_of q.log) both before) before did.2)
+      stepped b d.pass.knows e s (still_seated h) keeps.lines (acquired did.0 q d e s (uncut_too (last_by d.pass.knows) (last_of q.log) both before) before did.2)
 
   pub after_settle : (end : End) → HasSealed b end q d → HasSettled end q d e s → IsStep b e (step_of s)
-  after_settle end h did = stepped b d.pass.knows e s (still_seated h.seat)
+  after_settle end h did = stepped b d.pass.knows e s (still_seated h.seat) keeps.lines
       (answer end q did.0 d e s h.may.1.granted (λ a is. let p = (h.seat.fits.aside a is).goes.plain in (p.granted, p.uncut)) (h.newest ∙ did.1) did.1 (ended h did.1) did.2)
     where
       ended : HasSealed b end q d → last_of q.log ≡ Some did.0 → did.0.end ≡ end
@@ -306,14 +322,15 @@ module _ (b : BenchView) (end : End) (p n : PackageView) (d : DeskView) (image :
   was : DidRun d.pass.knows.image ran.reserved n
   was = subst (λ (z : Shown). DidRun z ran.reserved n) (is ∙ sym at.seat.fits.image) ran.ran
 
-  pub one_may : MayCommit d n
-  one_may = may_commit d ran.reserved n here.seat.out here.fit.fits was
+  pub one_may : MayCommit b.hall.terms d n
+  one_may = may_commit b.hall.terms d ran.reserved n (record { of = here.fit.of; sound = ran.sound; own = here.fit.locks; lines = here.lines }) here.seat.out here.fit.fits was
       (λ x e. (let one : was.block ≡ x = cc (was.pending, e) in subst (IsHandedOver (last_by d.pass.knows)) one (comes_behind d.pass.knows.image ran.reserved n here.fit.of ran.sound was (last_by d.pass.knows) here.next.granted)))
       here.next.together
 
-  pub one_sealed : (stamp : ℕ) (q : PackageView) (e : DeskView) → FitsBench b e → MovesSealed n q d e → DidSeal n stamp d.pass.knows e.pass.knows → q ≡ with_seal stamp d.pass.knows.worker n → e.aside ≡ d.aside → length e.sleepers ≡ length d.sleepers → HasSealed b end q e
-  one_sealed stamp q e fits moves sealed now aside room = record {
-    seat = record { fits = fits; sleepers = room ∙ at.seat.sleepers; out = subst (λ (a : Option PackageView). HasOut e.pass.knows (Pack q ∷ packed a)) (sym aside) (moves ran.reserved was nothing (packed d.aside) here.seat.out) };
+  pub one_sealed : (stamp : ℕ) (q : PackageView) (e : DeskView) → FitsBench b e → KeepsSealed b.hall.terms n q d e → DidSeal n stamp d.pass.knows e.pass.knows → q ≡ with_seal stamp d.pass.knows.worker n → e.aside ≡ d.aside → length e.sleepers ≡ length d.sleepers → HasSealed b end q e
+  one_sealed stamp q e fits keeps sealed now aside room = record {
+    seat = record { fits = fits; sleepers = room ∙ at.seat.sleepers; out = subst (λ (a : Option PackageView). HasOut e.pass.knows (Pack q ∷ packed a)) (sym aside) (keeps.moves ran.reserved was nothing (packed d.aside) here.seat.out) };
+    lines = keeps.lines;
     newest = ap last_by sealed.now
         ∙ (last_own worker_key d.pass.knows.sealed (sealed_block stamp d.pass.knows.worker sealed.block) d.pass.knows.worker refl
         ∙ sym (ap (λ (z : PackageView). last_of z.log) now ∙ seal_last n sealed.block stamp d.pass.knows.worker ran.ran.sound sealed.pending));

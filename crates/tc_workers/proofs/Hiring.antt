@@ -21,6 +21,7 @@ use Rattle.tc_ready.proofs.Crews.{last_all}
 use Rattle.tc_ready.specs.ReadyView.{ReadyView, AreCrew}
 use Rattle.tc_combiner.specs.View.{BenchView, AreSeats, FitsBench, desk_of}
 use Rattle.tc_workers.specs.Worker.{IsSeated, WorkerView, view_of, worker_of}
+use Rattle.tc_workers.proofs.Stances.{no_lines}
 use Rattle.tc_workers.specs.Crew.{AreForHire, AreHired, AreLines, AreSeatsOf, IsBench, IsForHire, IsHired, AreAtWork}
 use Rattle.tc_workers.specs.declared.worker.Worker.{Worker}
 use Rattle.tc_lemmas.proofs.Lists.{at_end, at_itself, something_at}
@@ -70,7 +71,7 @@ module _ (b : BenchView) (p : PassView) (ss : List SeatView) (r : ReadyView) (h 
         out = (outs p.knows, refl);
       } in
       let seat : IsSeated b [] (desk_of p ss sleepers 0 None []) = record { fits = fits; sleepers = rooms; out = new_out b.image (length b.image.entries) (length b.image.guards) p.knows.worker p.knows h.new } in record {
-        work = record { desk = record { seat = seat; fit = tt; next = ap (λ (v : Knows). was_cut (last_by v)) h.new.now }; ready = h.ready };
+        work = record { desk = record { seat = seat; lines = no_lines b.hall.terms p.knows (ap (λ (v : Knows). v.calls) h.new.now); fit = tt; next = ap (λ (v : Knows). was_cut (last_by v)) h.new.now }; ready = h.ready };
         pass = h.new;
         is = ap (λ (l : List (Option ℕ)). worker_of (desk_of p ss l 0 None []) r) (asleep ∙ ap (λ (k : ℕ). replicate k None) (few ∙ sym threads_are));
       }

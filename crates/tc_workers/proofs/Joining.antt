@@ -19,7 +19,8 @@ use Rattle.tc_hall.specs.declared.board.Knows.{Knows}
 use Rattle.tc_hall.specs.Made.{IsHallOf}
 use Rattle.tc_hall.specs.PassView.{ClosedView, HallView, PassView}
 use Rattle.tc_hall.specs.Rule.{threads}
-use Rattle.tc_hall.specs.Steps.{HasSeenAll, HasStop, IsEnd, IsFree, IsSamePass, made, merged, seen}
+use Rattle.tc_hall.specs.Steps.{HasSeenAll, HasStop, IsFree, IsSamePass, made, merged, seen}
+use Rattle.tc_hall.specs.Closing.{IsEnd}
 use Rattle.tc_queue.specs.Lines.{SeatView}
 use Rattle.tc_ready.specs.ReadyView.{ReadyView}
 use Rattle.tc_combiner.specs.View.{BenchView}
@@ -30,9 +31,9 @@ use Rattle.tc_workers.specs.Crew.{AreAtWork, Counts, CrewRan, HasRun, HaveFinish
 use Rattle.tc_workers.specs.declared.worker.Worker.{Worker}
 use Rattle.tc_workers.specs.Run.{HaveRoom, IsCrewsRun, IsWholeRun}
 use Rattle.tc_workers.proofs.Hiring.{hired_of}
-use Rattle.tc_workers.proofs.Passes.{stop_later}
 use Rattle.tc_workers.proofs.Unstopped.{none_stopped}
 use Rattle.tc_lemmas.proofs.Lists.{at_end, at_itself, something_at}
+use Rattle.tc_hall.proofs.Stops.{stop_later}
 
 -- a worker that counts in the joined pass, counts in both
 counts_joined : (v w : Knows) (u : ℕ) → Counts w u → Counts (merged v w) u
@@ -108,16 +109,20 @@ has_run b rows ready p a ran = record {
 }
 
 -- where each of them saw all threads done, none made a stop
-unstopped : (b : BenchView) (rows : List (List SeatView)) (ready : List ReadyView) (p : PassView) (a : Bool) → CrewRan b rows ready p a → a ≡ true → HaveNoStop p.knows.calls
+pub unstopped : (b : BenchView) (rows : List (List SeatView)) (ready : List ReadyView) (p : PassView) (a : Bool) → CrewRan b rows ready p a → a ≡ true → HaveNoStop p.knows.calls
 unstopped b rows ready p a ran all = none_stopped b ran.crew p.knows a ran.finished.worked all (λ i w e.
     let low = (there ran.crew i w w e).0 in
     let count = ran.hired.all in
     ap (λ (v : Knows). v.calls) (hired_of b rows ready ran.crew ran.members ran.hired i (length rows - 1 - i) w e (omega arith)).2.pass.now)
 
 -- where the hall was closed, each worker saw all threads done
+abbrev pub crews_run : (b : BenchView) (x : Shown) (o : Options) (rows : List (List SeatView)) (ready : List ReadyView) (p : PassView) (a : Bool) (c : ClosedView) → IsHallOf x o.fuel o.workers o.limit b.hall → HaveRoom x o ready → CrewRan b rows ready p a
+    → IsEnd b.hall.terms p.knows c.packages c.locks → a ≡ true → IsCrewsRun x o rows c
+crews_run b x o rows ready p a c of room ran end done = record { bench = b; hall = of; ready = ready; room = room; pass = p; ran = subst (CrewRan b rows ready p) done ran; unstopped = unstopped b rows ready p a ran done; end = end }
+
 pub closed_so : {E : Type 0} (b : BenchView) (x : Shown) (o : Options) (rows : List (List SeatView)) (ready : List ReadyView) (p : PassView) (a : Bool) (r : Result ClosedView E) → IsHallOf x o.fuel o.workers o.limit b.hall → HaveRoom x o ready → CrewRan b rows ready p a
     → IfOk r (λ c. IsEnd b.hall.terms p.knows c.packages c.locks) → MatchResult r (λ c. a ≡ true) (λ e. a ≡ false) → IfOk r (IsCrewsRun x o rows)
-closed_so b x o rows ready p a (Ok c) of room ran end done = record { bench = b; hall = of; ready = ready; room = room; pass = p; ran = subst (CrewRan b rows ready p) done ran; unstopped = unstopped b rows ready p a ran done; end = end }
+closed_so b x o rows ready p a (Ok c) of room ran end done = crews_run b x o rows ready p a c of room ran end done
 closed_so b x o rows ready p a (Err e) of room ran end done = tt
 
 -- from the end of the hall to the whole run

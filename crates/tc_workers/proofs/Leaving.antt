@@ -14,8 +14,9 @@ use Rattle.tc_combiner.proofs.Acting.{told_then}
 use Rattle.tc_workers.specs.StepWith.{GivesUp}
 use Rattle.tc_workers.specs.Worker.{DidLeave, DidPutBack, IsAtDesk, IsSeated, IsStill, IsUnmoved, LookedAtStop, MayAllGoBack, MayLeave, put_back}
 use Rattle.tc_workers.proofs.Desks.{aside_seat, at_still, fit_back, out_alone, seat_still, seated, still_holds, with_pass}
-use Rattle.tc_workers.proofs.Passes.{no_call, one_call, still_called, still_same, still_then, stop_later, stop_shown, stop_told, unmoved_call}
+use Rattle.tc_workers.proofs.Passes.{no_call, one_call, still_called, still_same, still_then, stop_shown, unmoved_call}
 use Rattle.tc_workers.proofs.Running.{may_put}
+use Rattle.tc_hall.proofs.Stops.{stop_later, stop_told}
 
 -- ---- one package, and the one that is set aside
 
@@ -56,7 +57,7 @@ has_left b hand o d e g f did given rest last =
 -- ---- where a stop was seen
 
 pub at_looked : (b : BenchView) (hand : Option PackageView) (d e : DeskView) (saw : Bool) → IsAtDesk b hand d → LookedAtStop saw d e → IsAtDesk b hand e
-at_looked b hand d e saw h l = subst (IsAtDesk b hand) (sym l.rest) (at_still b hand d e.pass h (unmoved_call d.pass e.pass (Seen l.saw.word) l.own l.saw.now))
+at_looked b hand d e saw h l = subst (IsAtDesk b hand) (sym l.rest) (at_still b hand d e.pass h (unmoved_call d.pass e.pass (Seen l.saw.word) l.own l.saw.now (λ i s. refl, λ t n. refl)))
 
 pub saw_told : (d e : DeskView) (saw : Bool) → LookedAtStop saw d e → saw ≡ true → Called (Seen 1 ∷ []) d.pass.knows e.pass.knows
 saw_told d e saw l seen = subst (λ n. Called (Seen n ∷ []) d.pass.knows e.pass.knows) (l.saw.one seen) (one_call d.pass.knows e.pass.knows (Seen l.saw.word) l.saw.now)
@@ -64,7 +65,7 @@ saw_told d e saw l seen = subst (λ n. Called (Seen n ∷ []) d.pass.knows e.pas
 -- what is in hand may be put back
 pub may_leave : (b : BenchView) (hand : Option PackageView) (d e : DeskView) (saw : Bool) → IsSeated b (packed hand) d → MayAllGoBack d.pass.knows.image d.pass.knows.worker hand → LookedAtStop saw d e → saw ≡ true → MayLeave b hand e
 may_leave b hand d e saw seat may l seen =
-    let unmoved = unmoved_call d.pass e.pass (Seen l.saw.word) l.own l.saw.now in record {
+    let unmoved = unmoved_call d.pass e.pass (Seen l.saw.word) l.own l.saw.now (λ i s. refl, λ t n. refl) in record {
       seat = subst (IsSeated b (packed hand)) (sym l.rest) (seat_still b (packed hand) d e.pass seat unmoved);
       may = still_holds (λ (i : Shown) (w : ℕ). MayAllGoBack i w hand) d.pass e.pass unmoved.still may;
       stop = stop_shown d.pass.knows e.pass.knows record { front = []; back = []; is = (saw_told d e saw l seen).calls };
@@ -83,13 +84,13 @@ pub left_alone : (d f : DeskView) → d.aside ≡ None → f ≡ record d { pass
 left_alone d f free is = is ∙ ap (λ (o : Option PackageView). record d { pass = f.pass; aside = o }) (sym free)
 
 pub left_still : (hand : Option PackageView) (d e f : DeskView) (saw : Bool) → LookedAtStop saw d e → DidLeave hand e f → IsStill d.pass f.pass
-left_still hand d e f saw l did = still_then d.pass e.pass f.pass (unmoved_call d.pass e.pass (Seen l.saw.word) l.own l.saw.now).still did.still
+left_still hand d e f saw l did = still_then d.pass e.pass f.pass (unmoved_call d.pass e.pass (Seen l.saw.word) l.own l.saw.now (λ i s. refl, λ t n. refl)).still did.still
 
 -- ---- where a stop was made
 
 module _ (b : BenchView) (d : DeskView) (o p : PassView) (q : PackageView) (is : o ≡ d.pass) (same : IsSamePass o p) (now : p.knows ≡ after_stop o.knows) where
   unmoved : IsUnmoved d.pass p
-  unmoved = subst (λ (z : PassView). IsUnmoved z p) is (unmoved_call o p Stop same now)
+  unmoved = subst (λ (z : PassView). IsUnmoved z p) is (unmoved_call o p Stop same now (λ i s. refl, λ t n. refl))
 
   made : Called (Stop ∷ []) d.pass.knows p.knows
   made = one_call d.pass.knows p.knows Stop (subst (λ (z : PassView). p.knows ≡ after_stop z.knows) is now)

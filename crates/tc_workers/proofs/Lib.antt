@@ -1,4 +1,5 @@
 pub mod Passes
+pub mod Stances
 pub mod Running
 pub mod Desks
 pub mod Leaving
@@ -8,3 +9,4 @@ pub mod Hiring
 pub mod Joining
 pub mod Rows
 pub mod Unstopped
+pub mod Machine

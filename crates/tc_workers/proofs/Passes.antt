@@ -1,7 +1,6 @@
 -- What the calls of the hall say of a worker's pass.
 use Rattle.std.proofs.Common.{◌≡◌, ◌≢◌, ℕ, ◌+◌, List, [], ◌∷◌, ◌++◌, length, length-append, refl, sym, ap, ◌∙◌, arith, append_assoc, append-nil}
 use Rattle.std.proofs.lemmas.List.Elements.{All-push}
-use Rattle.tc_hall.proofs.Listing.{at_append}
 use mathlib.Core.Option.{some}
 use mathlib.Core.Logic.{dite}
 use native.Mathlib.Decide.{ℕ_discrete}
@@ -10,17 +9,20 @@ use Rattle.atomic_table.proofs.Lists.{at_longer, at_last}
 use Rattle.tc_context.specs.View.{PackageView}
 use Rattle.tc_hall.specs.declared.board.Knows.{Knows}
 use Rattle.tc_hall.specs.declared.board.PassCall.{PassCall}
-use Rattle.tc_hall.specs.declared.board.PassCall.TheVariants.{Look, Stop, Stopped}
+use Rattle.tc_hall.specs.declared.board.PassCall.TheVariants.{Look, Stopped}
 use Rattle.tc_hall.specs.declared.place.Origin.{Origin}
 use Rattle.tc_hall.specs.declared.place.Origin.TheVariants as origin
 use Rattle.tc_hall.specs.Places.{origin_code}
 use Rattle.tc_hall.specs.PassView.{PassView}
 use Rattle.tc_hall.specs.Outs.{outs, Called, Pack}
-use Rattle.tc_hall.specs.Steps.{IsSamePass, Gets, HasStop, made, seen, with_call, after_look, after_miss}
+use Rattle.tc_hall.specs.Steps.{IsSamePass, Gets, HasStop, with_call, after_look, after_miss}
 use Rattle.tc_combiner.specs.Walks.{HasSeenStop}
-use Rattle.tc_ready.specs.Scan.{OnlyLooks}
+use Rattle.tc_hall.specs.Standing.{Standing, away, past, stand_from, standing_of, turns_from, turns_of, turns_past}
+use Rattle.tc_hall.proofs.Standing.{standing_last, turns_last}
+use Rattle.tc_ready.specs.Scan.{OnlyLooks, looks_from}
 use Rattle.tc_ready.proofs.Scanning.{looked_more, nothing_looked}
 use Rattle.tc_workers.specs.Worker.{HasOut, IsStill, IsUnmoved, SawEnded}
+use Rattle.tc_hall.proofs.Stops.{stop_seen}
 
 -- ---- the same pass
 
@@ -39,17 +41,50 @@ no_call v = record { image = refl; worker = refl; sealed = refl; joined = refl; 
 pub one_call : (v w : Knows) (c : PassCall) → w ≡ with_call v c → Called (c ∷ []) v w
 one_call v w c e = record { image = ap (λ (x : Knows). x.image) e; worker = ap (λ (x : Knows). x.worker) e; sealed = ap (λ (x : Knows). x.sealed) e; joined = ap (λ (x : Knows). x.joined) e; calls = ap (λ (x : Knows). x.calls) e }
 
-pub unmoved_call : (p q : PassView) (c : PassCall) → IsSamePass p q → q.knows ≡ with_call p.knows c → IsUnmoved p q
-unmoved_call p q c own e = record { still = still_called (c ∷ []) p q own (one_call p.knows q.knows c e); out = ap outs e; sealed = ap (λ (v : Knows). v.sealed) e }
+-- a call that is of no lock and no line
+abbrev pub IsQuiet : PassCall → Type 0
+IsQuiet c = ((i : ℕ) (s : Standing) → past i c s ≡ s) × ((t n : ℕ) → turns_past t c n ≡ n)
+
+pub unmoved_call : (p q : PassView) (c : PassCall) → IsSamePass p q → q.knows ≡ with_call p.knows c → IsQuiet c → IsUnmoved p q
+unmoved_call p q c own e quiet = record {
+  still = still_called (c ∷ []) p q own (one_call p.knows q.knows c e);
+  out = ap outs e;
+  sealed = ap (λ (v : Knows). v.sealed) e;
+  stands = λ i. ap (λ (v : Knows). standing_of i v.calls) e ∙ (standing_last i p.knows.calls c ∙ quiet.0 i (standing_of i p.knows.calls));
+  turns = λ t. ap (λ (v : Knows). turns_of t v.calls) e ∙ (turns_last t p.knows.calls c ∙ quiet.1 t (turns_of t p.knows.calls));
+}
 
 pub unmoved_missed : (p q : PassView) (word found : ℕ) → IsSamePass p q → q.knows ≡ after_miss p.knows word found → IsUnmoved p q
-unmoved_missed p q word found own e = record { still = record { own = own; image = ap (λ (v : Knows). v.image) e; worker = ap (λ (v : Knows). v.worker) e; joined = ap (λ (v : Knows). v.joined) e }; out = ap outs e; sealed = ap (λ (v : Knows). v.sealed) e }
+unmoved_missed p q word found own e = record {
+  still = record { own = own; image = ap (λ (v : Knows). v.image) e; worker = ap (λ (v : Knows). v.worker) e; joined = ap (λ (v : Knows). v.joined) e };
+  out = ap outs e;
+  sealed = ap (λ (v : Knows). v.sealed) e;
+  stands = λ i. ap (λ (v : Knows). standing_of i v.calls) e;
+  turns = λ t. ap (λ (v : Knows). turns_of t v.calls) e;
+}
+
+-- looks change no standing
+looks_stand : (i n : ℕ) (cs : List PassCall) (words : List ℕ) (s : Standing) → stand_from i (cs ++ looks_from n words) s ≡ stand_from i cs s
+looks_stand i n [] [] s = refl
+looks_stand i n [] (x ∷ words) s = looks_stand i (n + 1) [] words s
+looks_stand i n (c ∷ cs) words s = looks_stand i n cs words (past i c s)
+
+looks_count : (t n : ℕ) (cs : List PassCall) (words : List ℕ) (m : ℕ) → turns_from t (cs ++ looks_from n words) m ≡ turns_from t cs m
+looks_count t n [] [] m = refl
+looks_count t n [] (x ∷ words) m = looks_count t (n + 1) [] words m
+looks_count t n (c ∷ cs) words m = looks_count t n cs words (turns_past t c m)
 
 pub unmoved_looked : (p q : PassView) → IsSamePass p q → OnlyLooks p.knows q.knows → IsUnmoved p q
-unmoved_looked p q own h = record { still = record { own = own; image = ap (λ (v : Knows). v.image) h.looked; worker = ap (λ (v : Knows). v.worker) h.looked; joined = ap (λ (v : Knows). v.joined) h.looked }; out = ap outs h.looked; sealed = ap (λ (v : Knows). v.sealed) h.looked }
+unmoved_looked p q own h = record {
+  still = record { own = own; image = ap (λ (v : Knows). v.image) h.looked; worker = ap (λ (v : Knows). v.worker) h.looked; joined = ap (λ (v : Knows). v.joined) h.looked };
+  out = ap outs h.looked;
+  sealed = ap (λ (v : Knows). v.sealed) h.looked;
+  stands = λ i. ap (λ (v : Knows). standing_of i v.calls) h.looked ∙ looks_stand i 0 p.knows.calls h.words away;
+  turns = λ t. ap (λ (v : Knows). turns_of t v.calls) h.looked ∙ looks_count t 0 p.knows.calls h.words 0;
+}
 
 pub unmoved_then : (p q r : PassView) → IsUnmoved p q → IsUnmoved q r → IsUnmoved p r
-unmoved_then p q r a b = record { still = still_then p q r a.still b.still; out = b.out ∙ a.out; sealed = b.sealed ∙ a.sealed }
+unmoved_then p q r a b = record { still = still_then p q r a.still b.still; out = b.out ∙ a.out; sealed = b.sealed ∙ a.sealed; stands = λ i. b.stands i ∙ a.stands i; turns = λ t. b.turns t ∙ a.turns t }
 
 -- ---- a claim
 
@@ -62,17 +97,8 @@ claimed_out word t q v w free g = (g.came.out, g.came.before ∙ free)
 
 -- ---- a stop
 
-pub stop_told : (v w : Knows) (cs : List PassCall) → w.calls ≡ v.calls ++ Stop ∷ cs → HasStop w
-stop_told v w cs e = let at = at_append v.calls (Stop ∷ cs) 0 Stop refl in made at.0 (ap (λ (l : List PassCall). get_elem? l at.0) e ∙ at.1)
-
 pub stop_shown : (v w : Knows) → HasSeenStop v w → HasStop w
-stop_shown v w s =
-    let at = at_append (v.calls ++ s.front) (Stopped 1 ∷ s.back) 0 (Stopped 1) refl in
-    seen at.0 (ap (λ (l : List PassCall). get_elem? l at.0) (s.is ∙ sym (append_assoc v.calls s.front (Stopped 1 ∷ s.back))) ∙ at.1)
-
-pub stop_later : (v w : Knows) (cs : List PassCall) → w.calls ≡ v.calls ++ cs → HasStop v → HasStop w
-stop_later v w cs e (made i h) = made i (ap (λ (l : List PassCall). get_elem? l i) e ∙ at_longer v.calls cs i Stop h)
-stop_later v w cs e (seen i h) = seen i (ap (λ (l : List PassCall). get_elem? l i) e ∙ at_longer v.calls cs i (Stopped 1) h)
+stop_shown v w s = stop_seen (record v { calls = v.calls ++ s.front }) w s.back (s.is ∙ sym (append_assoc v.calls s.front (Stopped 1 ∷ s.back)))
 
 -- ---- threads that have ended
 

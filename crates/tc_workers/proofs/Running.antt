@@ -18,6 +18,7 @@ use Rattle.tc_context.specs.Ran.{DidRun}
 use Rattle.tc_context.specs.View.{PackageView, Allows, HasBlock, IsRoomier, IsSoundPackage, MayTake, WantIsGranted, bare, fits_granted, fits_in, fits_of, granted_lock, with_seal}
 use Rattle.tc_context.proofs.Staging.{lock_was, some_of}
 use Rattle.tc_context.proofs.Running.{seal_last, seal_set}
+use Rattle.tc_hall.specs.declared.board.HallTerms.{HallTerms}
 use Rattle.tc_hall.specs.declared.board.Knows.{Knows}
 use Rattle.tc_hall.specs.declared.place.Place.TheVariants.{Ready}
 use Rattle.tc_hall.specs.Outs.{Outs, Item, Pack, Within, IsOut, outs, keep, minus, nothing, part}
@@ -26,6 +27,7 @@ use Rattle.tc_hall.specs.Steps.{HandsPending, HasStop, IsFree, MayPut}
 use Rattle.tc_hall.proofs.Outs.{has_out, lock_out, same_outs, found}
 use Rattle.tc_combiner.specs.Packages.{HasNoOther, IsGoodFor, Runs}
 use Rattle.tc_combiner.specs.Settling.{MayCommit, MaySettle}
+use Rattle.tc_combiner.specs.Stances.{WasReady}
 use Rattle.tc_combiner.specs.View.{DeskView}
 use Rattle.tc_combiner.specs.Walks.{Owns, packed}
 use Rattle.tc_hall.proofs.Cases.{clash}
@@ -82,9 +84,10 @@ module _ (p q : PackageView) (r : IsRoomier p q) where
 -- ---- a block
 
 -- the desk may seal it
-pub may_commit : (d : DeskView) (p n : PackageView) → HasOut d.pass.knows (Pack p ∷ packed d.aside) → fits_of p d.pass.knows.worker ≡ true → DidRun d.pass.knows.image p n → HandsPending d.pass.knows n → AreTogether (last_by d.pass.knows) (last_of p.log) → MayCommit d n
-may_commit d p n out fits ran handed both = record {
+pub may_commit : (k : HallTerms) (d : DeskView) (p n : PackageView) → WasReady k d.pass.knows p (packed d.aside) → HasOut d.pass.knows (Pack p ∷ packed d.aside) → fits_of p d.pass.knows.worker ≡ true → DidRun d.pass.knows.image p n → HandsPending d.pass.knows n → AreTogether (last_by d.pass.knows) (last_of p.log) → MayCommit k d n
+may_commit k d p n ready out fits ran handed both = record {
   before = p;
+  ready = ready;
   hand = (nothing, out);
   ran = ran;
   allows = λ b e. (let one : ran.block ≡ b = cc (ran.pending, e) in subst (λ (z : Block). Allows n.context z d.pass.knows.worker) one (ran.fits d.pass.knows.worker fits));

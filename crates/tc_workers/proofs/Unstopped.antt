@@ -8,6 +8,7 @@ use Rattle.tc_elf.specs.Shown.{Shown}
 use Rattle.tc_journal.specs.declared.block.Block.{Block}
 use Rattle.tc_journal.specs.declared.block.End.{End}
 use Rattle.tc_journal.specs.declared.block.End.TheVariants.{Cut, Slept, Unlocked, Wants}
+use Rattle.tc_segment.specs.View.{sealed_block}
 use Rattle.tc_context.specs.View.{PackageView}
 use Rattle.tc_hall.specs.declared.board.Knows.{Knows}
 use Rattle.tc_hall.specs.declared.board.PassCall.{PassCall}
@@ -71,7 +72,7 @@ chosen origin.Ready t x y h = adds_looks x.desk.pass.knows y.desk.pass.knows h.1
 
 tried_so : (from : Origin) (t : ℕ) (v w : Knows) (s : Step) → s ≢ Stopped → IsTry from t v w s → AddsNoStop v w
 tried_so from t v w (On None) goes h = same_calls v w (ap (λ (k : Knows). k.calls) h.1.1)
-tried_so from t v w (On (Some q)) goes h = adds_one v v w (claim_call q (origin_code from)) tt (same_calls v v refl) h.called.calls
+tried_so from t v w (On (Some q)) goes h = adds_one v v w (claim_call v q (origin_code from)) tt (same_calls v v refl) h.called.calls
 tried_so from t v w AllDone goes h = absurd h
 tried_so from t v w Stopped goes h = absurd (goes refl)
 
@@ -107,7 +108,7 @@ went_so : (image : Shown) (p : PackageView) (x z : WorkerView) (s : Step) → s 
 went_so image p x z s goes (acquires a offered) = of_adds a.acquired.2.calls x.desk.pass.knows z.desk.pass.knows a.acquired.2.adds
 went_so image p x z s goes (runs want r offered) =
     both_add x.desk.pass.knows r.between.pass.knows z.desk.pass.knows
-    (adds_one x.desk.pass.knows x.desk.pass.knows r.between.pass.knows (Commit r.block.pending.context.thread r.block.stamp) tt (same_calls x.desk.pass.knows x.desk.pass.knows refl) (ap (λ (v : Knows). v.calls) r.block.sealed.now))
+    (adds_one x.desk.pass.knows x.desk.pass.knows r.between.pass.knows (Commit r.block.pending.context.thread (sealed_block r.block.stamp x.desk.pass.knows.worker r.block.sealed.block)) tt (same_calls x.desk.pass.knows x.desk.pass.knows refl) (ap (λ (v : Knows). v.calls) r.block.sealed.now))
     (settled_so r.end r.sealed r.settled.0 r.between z.desk r.answer r.settled.2)
 went_so image p x z s goes (gives_up want q room gave is ready) = absurd (goes is)
 

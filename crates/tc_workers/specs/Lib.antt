@@ -5,3 +5,4 @@ pub mod Turns
 pub mod Crew
 pub mod Rows
 pub mod Run
+pub mod Machine

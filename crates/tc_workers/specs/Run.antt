@@ -10,7 +10,7 @@ use Rattle.tc_context.specs.View.{bare}
 use Rattle.tc_law.specs.Lawful.{Lawful, AreStrict}
 use Rattle.tc_hall.specs.Made.{IsHallOf}
 use Rattle.tc_hall.specs.PassView.{ClosedView, PassView}
-use Rattle.tc_hall.specs.Steps.{IsEnd}
+use Rattle.tc_hall.specs.Closing.{IsEnd}
 use Rattle.tc_queue.specs.Lines.{SeatView}
 use Rattle.tc_ready.specs.ReadyView.{AreCrew, ReadyView}
 use Rattle.tc_combiner.specs.View.{BenchView}

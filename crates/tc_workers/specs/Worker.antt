@@ -14,10 +14,12 @@ use Rattle.tc_hall.specs.declared.place.Place.TheVariants.{Ready}
 use Rattle.tc_hall.specs.Outs.{Called, outs, nothing, Item, Pack}
 use Rattle.tc_hall.specs.PassView.{PassView}
 use Rattle.tc_hall.specs.Rule.{threads, grants_adopted, is_pinned, last_by}
+use Rattle.tc_hall.specs.Standing.{standing_of, turns_of}
 use Rattle.tc_hall.specs.Steps.{IsGrantedBehind, IsSamePass, HasSeenAll, HasStop, SawStopped, after_look, put_call}
 use Rattle.tc_ready.specs.ReadyView.{ReadyView}
 use Rattle.tc_ready.specs.Scan.{Looked}
 use Rattle.tc_combiner.specs.Packages.{HasNoOther, IsGood, Runs}
+use Rattle.tc_combiner.specs.Stances.{KnowsLines}
 use Rattle.tc_combiner.specs.Walks.{Owns, packed}
 use Rattle.tc_combiner.specs.View.{BenchView, DeskView, FitsBench}
 use Rattle.tc_combiner.specs.Settling.{MaySettle}
@@ -49,11 +51,13 @@ pub record IsStill (p q : PassView) : Type 0 where
   pub worker : q.knows.worker ≡ p.knows.worker
   pub joined : q.knows.joined ≡ p.knows.joined
 
--- it has out what it had, and sealed no block
+-- it has out what it had, sealed no block, and stands at the line of each lock as it did
 pub record IsUnmoved (p q : PassView) : Type 0 where
   pub still : IsStill p q
   pub out : outs q.knows ≡ outs p.knows
   pub sealed : q.knows.sealed ≡ p.knows.sealed
+  pub stands : (i : ℕ) → standing_of i q.knows.calls ≡ standing_of i p.knows.calls
+  pub turns : (t : ℕ) → turns_of t q.knows.calls ≡ turns_of t p.knows.calls
 
 -- ---- packages in hand
 
@@ -111,9 +115,10 @@ pub record IsSeated (b : BenchView) (xs : List Item) (d : DeskView) : Type 0 whe
   pub sleepers : length d.sleepers ≡ threads b.hall.terms
   pub out : HasOut d.pass.knows (xs ++ packed d.aside)
 
--- one with this package in hand, where there is one
+-- one with this package in hand, where there is one: in a hall with lines it stands as that and the one set aside show
 pub record IsAtDesk (b : BenchView) (hand : Option PackageView) (d : DeskView) : Type 0 where
   pub seat : IsSeated b (packed hand) d
+  pub lines : KnowsLines b.hall.terms d.pass.knows (packed hand ++ packed d.aside)
   pub fit : IsFit d.pass.knows.image d.pass.knows.worker hand
   pub next : IsNext (last_by d.pass.knows) hand
 
@@ -126,6 +131,7 @@ pub record IsIdle (b : BenchView) (d : DeskView) : Type 0 where
 -- not cut
 pub record HasClaimed (b : BenchView) (q : PackageView) (d : DeskView) : Type 0 where
   pub seat : IsSeated b (Pack q ∷ []) d
+  pub lines : KnowsLines b.hall.terms d.pass.knows (Pack q ∷ packed d.aside)
   pub free : d.aside ≡ None
   pub uncut : was_cut (last_by d.pass.knows) ≡ false
   pub back : MayGoBack d.pass.knows.image d.pass.knows.worker q
@@ -134,6 +140,7 @@ pub record HasClaimed (b : BenchView) (q : PackageView) (d : DeskView) : Type 0 
 -- the block of a package in hand was sealed, and ended so; it is the worker's last
 pub record HasSealed (b : BenchView) (end : End) (q : PackageView) (d : DeskView) : Type 0 where
   pub seat : IsSeated b (Pack q ∷ []) d
+  pub lines : KnowsLines b.hall.terms d.pass.knows (Pack q ∷ packed d.aside)
   pub newest : last_by d.pass.knows ≡ last_of q.log
   pub may : MaySettle b.image d.pass.knows.worker end q
 

@@ -1,13 +1,15 @@
 //! Workers: they run the threads of a guest through one hall, until each has ended.
 //!
 //! A worker with its desk (combiner) runs and settles packages until every thread is Done or the run is stopped.
-//! Promise: a run returns the threads and locks of a complete legal run of ordinary mutexes (`IsWholeRun`).
+//! Promise: a run returns the threads and locks of a complete legal run of ordinary mutexes (`IsWholeRun`); where
+//! the waiters stand in the hall's lines, it is a run of the abstract machine (`IsMachineRun`).
 //!
 //! - `specs/Worker.antt`: the invariant of a worker at work. `specs/Search.antt`: the result of a
 //!   search for a package, and why. `specs/StepWith.antt`: what is done with a current package, what
 //!   a worker does after its desk's answer, and the threads that it offers. `specs/Turns.antt`: its
 //!   steps, and its end. `specs/Crew.antt`: a crew of workers and their queues. `specs/Rows.antt`:
 //!   rows of seats. `specs/Run.antt`: the result of a whole run, and what its crew did.
+//!   `specs/Machine.antt`: what its steps were.
 //! - `gate`: observers of workers. `worker`: workers. `work`: a worker's steps, in their order.
 //!   `find`, `step_with`, `leave`: how it finds a package, makes a step with one, and leaves.
 //!   `calls`: the calls of the hall, as workers make them. `step`, `finished`: the results of a

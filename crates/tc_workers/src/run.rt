@@ -5,11 +5,12 @@ ghost use Rattle.std.specs.Prelude.{MatchResult, length, map, min};
 ghost use Rattle.tc_isa.specs.declared.limits.TheConstants.{MAX_FUEL};
 ghost use Rattle.tc_elf.specs.declared.limits.TheConstants.{MAX_THREADS};
 ghost use Rattle.tc_hall.specs.Made.{AreDealt, IsHallOf};
-ghost use Rattle.tc_hall.specs.Steps.{IsEnd};
+ghost use Rattle.tc_hall.specs.Closing.{IsEnd};
 ghost use Rattle.tc_queue.specs.Lines.{SeatView};
 ghost use Rattle.tc_order.specs.Order.{AreInOrder};
 ghost use Rattle.tc_workers.specs.Crew.{AreForHire, AreLines, CrewRan, HasRun};
 ghost use Rattle.tc_workers.specs.StepWith.{CanHave};
+ghost use Rattle.tc_workers.specs.Machine.{IsMachineRun};
 ghost use Rattle.tc_workers.specs.Run.{IsCrewsRun, IsWholeRun};
 
 use crate::bell::Bell;
@@ -113,6 +114,8 @@ where
     ensures whole { IfOk result (λ closed. IsWholeRun image.now options closed) }
     ensures crew { IfOk result (λ closed. IsCrewsRun image.now options
         (map (λ row. map Q.seen row.items) lines.rows.items) closed) }
+    ensures runs { opened.0.terms.lined ≡ true → IfOk result (λ closed. IsMachineRun image.now
+        options (map (λ row. map Q.seen row.items) lines.rows.items) closed) }
 {
     let (hall, passes) = opened;
     let Lines { queues, rows } = lines;
@@ -187,7 +190,8 @@ where
 }
 
 /// Runs the threads of an image to their ends, by so many workers in parallel, in the order of
-/// entry: the waiters stand in the lines of the hall. Each thread has the fuel, and the batch limit
+/// entry: the waiters stand in the lines of the hall. The workers' steps, in their one order, are a
+/// run of the abstract machine, which writes the history. Each thread has the fuel, and the batch limit
 /// is that of the options. It may wait, as a desk may.
 ///
 /// Its only error is that memory ran out.
@@ -201,6 +205,8 @@ pub fn run_all<R: Threads + Wait + Sync, G: Gate>(
     ensures whole { IfOk result (λ closed. IsWholeRun image.now options closed) }
     ensures crew { IfOk result (λ closed. (rows : List (List SeatView))
         × IsCrewsRun image.now options rows closed) }
+    ensures runs { IfOk result (λ closed. (rows : List (List SeatView))
+        × IsMachineRun image.now options rows closed) }
 {
     let (fuel, workers) = (options.fuel, options.workers);
     let opened = Hall::with_lines(alloc, image, fuel, workers, options.limit)?;

@@ -17,7 +17,7 @@ use Rattle.tc_workers.specs.declared.step.Step.{Step}
 use Rattle.tc_workers.specs.declared.step.Step.TheVariants.{On}
 use Rattle.tc_workers.specs.Worker.{HasSealed, IsAtDesk, IsStep, IsUnmoved}
 use Rattle.tc_workers.proofs.Desks.{at_still, other_sleepers, with_pass}
-use Rattle.tc_workers.proofs.Passes.{unmoved_call}
+use Rattle.tc_workers.proofs.Passes.{IsQuiet, unmoved_call}
 use Rattle.tc_workers_tests.specs.Scripts.{IsPlaying}
 
 pub at_bench : (b : BenchView) (d : DeskView) (hand : Option PackageView) (end : Option End) → IsPlaying b d hand end → FitsBench b d
@@ -50,11 +50,11 @@ pub woken : (b : BenchView) (d m : DeskView) (hand : Option PackageView) (end : 
 woken b d m hand end sleepers now p e f is same =
     playing b (record m { sleepers = sleepers }) hand None end (subst (λ (z : DeskView). IsAtDesk b None (record z { sleepers = sleepers })) (sym is) (other_sleepers b d sleepers now (at_desk b d hand None end p e f) same)) e f
 
--- the pass made calls, and has out what it had
-pub looked_on : (b : BenchView) (d : DeskView) (o q : PassView) (hand : Option PackageView) (end : Option End) (c : PassCall) → IsPlaying b d hand end → end ≡ None → o ≡ d.pass → IsSamePass o q → q.knows ≡ with_call o.knows c → IsPlaying b (with_pass d q) hand end
-looked_on b d o q hand end c p e is own now =
+-- the pass made a call that is of no lock and no line
+pub looked_on : (b : BenchView) (d : DeskView) (o q : PassView) (hand : Option PackageView) (end : Option End) (c : PassCall) → IsPlaying b d hand end → end ≡ None → o ≡ d.pass → IsSamePass o q → q.knows ≡ with_call o.knows c → IsQuiet c → IsPlaying b (with_pass d q) hand end
+looked_on b d o q hand end c p e is own now quiet =
     let r : hand ≡ hand = refl in
-    let u = subst (λ (z : PassView). IsUnmoved z q) is (unmoved_call o q c own now) in
+    let u = subst (λ (z : PassView). IsUnmoved z q) is (unmoved_call o q c own now quiet) in
     playing b (with_pass d q) hand hand end (at_still b hand d q (at_desk b d hand hand end p e r) u) e r
 
 -- a package whose last block wanted a lock may acquire it

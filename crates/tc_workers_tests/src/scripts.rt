@@ -5,6 +5,7 @@
 ghost use Rattle.std.specs.Prelude.{◌≡◌, ◌<◌, ◌≤◌, None, All, IfOk, OnOk, length, map};
 ghost use Rattle.tc_isa.specs.declared.limits.TheConstants.{MAX_BATCH, MAX_WORKERS};
 ghost use Rattle.tc_hall.specs.Made.{AreDealt};
+ghost use Rattle.tc_hall.specs.Rule.{locks};
 ghost use Rattle.tc_order.specs.Order.{AreInOrder};
 ghost use Rattle.tc_workers.specs.Crew.{AreAtWork, AreLines};
 ghost use Rattle.tc_workers.specs.StepWith.{step_of};
@@ -27,7 +28,7 @@ use tc_context::package::Package;
 use tc_elf::image::Image;
 use tc_elf::limits::MAX_THREADS;
 use tc_elf::load::load;
-use tc_hall::hall::Hall;
+use tc_hall::hall::{Hall, LockOut};
 use tc_hall::pass::Pass;
 use tc_hall::place::Origin;
 use tc_isa::limits::{MAX_BATCH, MAX_WORKERS};
@@ -37,6 +38,7 @@ use tc_journal::reading::read;
 use tc_order::Order;
 use tc_ready::Ready;
 use tc_seats::ByEntry;
+use tc_segment::state::LockState;
 use tc_workers::Open;
 use tc_workers::crew::hire;
 use tc_workers::find::try_claim;
@@ -437,6 +439,20 @@ pub(crate) fn follow<R: Abort + Wait, Q: Order>(
     Ok(())
 }
 
+/// Takes a lock after a stop: no call asks then how the pass stands at the lock's line.
+pub(crate) fn take_stopped<Q: Order>(
+    bench: &Bench<'_, Q>,
+    pass: &mut Pass,
+    lock: u32,
+) -> Result<LockState, LockOut>
+    requires at { IsAtHall bench.now pass.old }
+    requires lock { lock < locks bench.now.hall.terms }
+    ensures { IsAtHall bench.now pass.new }
+{
+    bench.hall.stop(pass);
+    bench.hall.take(pass, lock)
+}
+
 /// Takes each lock that is free, and compares the bytes of its guard, and whether it is broken.
 fn check_guards<R: Abort, Q: Order>(
     rt: &R,
@@ -448,7 +464,7 @@ fn check_guards<R: Abort, Q: Order>(
 {
     assert!(rt; bench.image.guards() as usize == script.bytes.len());
     for lock in 0..bench.image.guards() {
-        match (bench.hall.take(pass, lock), script.bytes[lock as usize]) {
+        match (take_stopped(bench, pass, lock), script.bytes[lock as usize]) {
             (Ok(state), Some(bytes)) => {
                 assert!(rt; state.bytes() == bytes.as_slice() && state.broken() == script.broken);
             }

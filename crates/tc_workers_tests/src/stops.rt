@@ -8,7 +8,9 @@ ghost use Rattle.tc_workers.specs.Crew.{AreAtWork};
 ghost use Rattle.tc_workers_tests.specs.Scripts.{IsAtHall, IsKeeper, IsPlaying};
 
 use crate::scripts::Action::{Adopts, Claim, GoesOn, Run, Ships};
-use crate::scripts::{Ending, Player, START, Script, TWO_GUARDS, in_hand, play_to, player_of};
+use crate::scripts::{
+    Ending, Player, START, Script, TWO_GUARDS, in_hand, play_to, player_of, take_stopped,
+};
 use crossbeam_utils::atomic::AtomicCell;
 use std::process::Abort;
 use std::sync::{Mutex, Wait};
@@ -61,13 +63,14 @@ fn enter_line<R: Abort, Q: Order>(
 {
     assert!(rt; !seats.is_empty());
     let turn = Turn { thread, number: 1 };
+    bench.hall.stop(pass);
     match bench.queues[0].enter(bench.hall, pass, &mut seats[0], turn) {
         Arrival::First => panic!(rt; "nobody is in the line"),
         Arrival::Behind(_) => {}
     }
 }
 
-/// Withholds from the desks what one of them will wait for.
+/// Withholds from the desks what one of them will wait for, and stops the run.
 fn keep<R: Abort, Q: Order>(
     rt: &R,
     bench: &Bench<'_, Q>,
@@ -81,10 +84,11 @@ fn keep<R: Abort, Q: Order>(
     match kept {
         Kept::Lock(lock) => {
             assert!(rt; lock < bench.image.guards());
-            assert!(rt; bench.hall.take(pass, lock).is_ok());
+            assert!(rt; take_stopped(bench, pass, lock).is_ok());
         }
         Kept::Waiter(thread, lock) => {
             assert!(rt; thread < bench.image.threads() && lock < bench.image.guards());
+            bench.hall.stop(pass);
             assert!(rt; bench.hall.adopt(pass, thread, lock).is_ok());
         }
         Kept::Link(thread) => {
@@ -120,7 +124,6 @@ fn stop_as<R: Abort, Q: Order>(rt: &R, bench: &Bench<'_, Q>, player: Player<Q>, 
 {
     let (mut pass, mut seats) = keeper_of(rt, bench, player);
     keep(rt, bench, &mut pass, &mut seats, kept);
-    bench.hall.stop(&mut pass);
     pass
 }
 
@@ -160,7 +163,7 @@ fn check_home<R: Abort, Q: Order>(rt: &R, bench: &Bench<'_, Q>, pass: &mut Pass,
 {
     assert!(rt; bench.image.guards() as usize == home.len());
     for lock in 0..bench.image.guards() {
-        let is_home = bench.hall.take(pass, lock).is_ok();
+        let is_home = take_stopped(bench, pass, lock).is_ok();
         assert!(rt; is_home == home[lock as usize], "lock {lock}");
     }
 }

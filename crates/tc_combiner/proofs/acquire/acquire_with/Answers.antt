@@ -1,8 +1,17 @@
-use Rattle.std.proofs.Common.{refl, [], ◌∷◌, subst}
+use Rattle.std.proofs.Common.{◌≡◌, ◌≢◌, ◌⊎◌, ℕ, Bool, if◌then◌else◌, List, refl, [], ◌∷◌, subst, sym, ap, ◌∙◌, inr, true, Option, Some, None}
 use Rattle.tc_queue.specs.Lines.{Enter, answer}
-use Rattle.tc_combiner.proofs.Vocabulary.{BeginsAs, DeskParts, Pack, Turn, Waiting, packed, put_call}
+use Rattle.tc_combiner.proofs.Vocabulary.{Behind, BeginsAs, DeskParts, First, Has, HasNone, LineCall, Link, Owns, Pack, PackageView, PassCall, Turn, Waiting, bare, outs, packed, put_call, with_turns}
 use Rattle.tc_combiner.proofs.Acting.{acts_by, acts_lined, acts_then, at_after, begun_as}
 use Rattle.tc_combiner.proofs.Acquiring.{at_counted, first_after, goes_on, is_counted, may_wait, ships, still_asks, stops_second}
+use Rattle.tc_queue.specs.declared.turn.Entered.TheVariants.{Behind as Own_behind, First as Own_first}
+use Rattle.tc_lemmas.proofs.Tests.{eq_self}
+use Rattle.tc_hall.proofs.Outs.{is_there}
+use Rattle.tc_hall.specs.Standing.{EntersAs, last_turn, turn_by}
+use Rattle.tc_hall.specs.Steps.{HasStop}
+use Rattle.tc_combiner.specs.Stances.{EnteredAs, KnowsLines}
+use Rattle.tc_combiner.proofs.Stances.{behind_past, first_past, link_same}
+use Rattle.tc_combiner.proofs.Lining.{aside_apart, entered_as, enters_as, if_lined, links_as, same_lines, ship_lines, ships_as, wants_absent}
+use Rattle.tc_combiner.proofs.Packages.{no_other}
 use Rattle.tc_combiner.proofs.acquire.acquire_with.Goals as goal
 
 pub acquire_first-requires-clause-parts : goal.acquire_first-requires-clause-parts
@@ -13,8 +22,8 @@ acquire_first-requires-clause-parts g c =
     let at = at_after c.args.hall.now [] _ _ c.args.parts.now.pass c.enter.new.pass c.args.parts.now.aside c.args.parts.now.aside counted' (acts_by [] (Pack p ∷ packed c.args.parts.now.aside) c.args.parts.now.pass c.enter.new.pass lined) refl in
     at
 
-pub ship-requires : goal.ship-requires
-ship-requires g c =
+pub ship-requires-clause-may : goal.ship-requires-clause-may
+ship-requires-clause-may g c =
     let p = c.next_number.new.self in
     let lined = acts_lined _ c.args.parts.now.pass c.enter.new.pass c.enter.ensures.told in
     let counted' = at_counted c.args.hall.now c.args.«package» p c.next_number.result c.args.parts.now c.next_number.ensures.rest c.requires.parts in
@@ -31,7 +40,7 @@ returns-in-Some-clause-acquired g c =
     let lined = acts_lined _ c.args.parts.now.pass c.enter.new.pass c.enter.ensures.told in
     let number = is_counted c.args.«package» c.next_number.new.self c.next_number.result c.thread.result c.next_number.ensures.is c.next_number.ensures.rest c.thread.ensures in
     goes_on c.args.hall.now c.args.lock _ c.args.«package» p (g.Q.Order.seen c.args.seat.now) (g.Q.Order.seen c.enter.new.seat) c.args.parts.now c.acquire_first.new.parts number c.requires.parts c.in-Some.«package» (c.in-First.ensures {u = tt}).call
-    (first_after c.args.hall.now.terms c.args.lock _ p c.args.parts.now c.enter.new.pass c.acquire_first.new.parts _ lined (c.in-Some.ensures {u = tt}))
+    (first_after c.args.hall.now.terms c.args.lock _ p c.args.parts.now c.enter.new.pass c.acquire_first.new.parts _ lined (c.in-Some.ensures {u = tt}).first)
 
 pub returns-in-None-clause-acquired : goal.returns-in-None-clause-acquired
 returns-in-None-clause-acquired g c =
@@ -39,7 +48,7 @@ returns-in-None-clause-acquired g c =
     let lined = acts_lined _ c.args.parts.now.pass c.enter.new.pass c.enter.ensures.told in
     let number = is_counted c.args.«package» c.next_number.new.self c.next_number.result c.thread.result c.next_number.ensures.is c.next_number.ensures.rest c.thread.ensures in
     stops_second c.args.hall.now c.args.lock _ c.args.«package» p (g.Q.Order.seen c.args.seat.now) (g.Q.Order.seen c.enter.new.seat) c.args.parts.now c.acquire_first.new.parts number c.requires.parts (c.in-First.ensures {u = tt}).call
-    (first_after c.args.hall.now.terms c.args.lock _ p c.args.parts.now c.enter.new.pass c.acquire_first.new.parts _ lined (c.in-None.ensures {u = tt}))
+    (first_after c.args.hall.now.terms c.args.lock _ p c.args.parts.now c.enter.new.pass c.acquire_first.new.parts _ lined (c.in-None.ensures {u = tt}).first)
 
 pub returns-in-Behind-clause-acquired : goal.returns-in-Behind-clause-acquired
 returns-in-Behind-clause-acquired g c =
@@ -54,14 +63,14 @@ returns-in-Behind-clause-acquired g c =
 pub returns-in-Some-clause-enters : goal.returns-in-Some-clause-enters
 returns-in-Some-clause-enters g c =
     let number = is_counted c.args.«package» c.next_number.new.self c.next_number.result c.thread.result c.next_number.ensures.is c.next_number.ensures.rest c.thread.ensures in
-    let told = (c.in-Some.ensures {u = tt}).acts.adds.told.calls in
+    let told = (c.in-Some.ensures {u = tt}).first.acts.adds.told.calls in
     let a = answer g.Q.Order.mark c.enter.result in
     (a, subst (λ (u : Turn). BeginsAs (g.Q.Order.notes c.args.queue.now (Enter u a)) c.args.parts.now.pass c.acquire_first.new.parts.pass) number.turn (begun_as _ c.args.parts.now.pass c.enter.new.pass c.acquire_first.new.parts.pass _ c.enter.ensures.told told))
 
 pub returns-in-None-clause-enters : goal.returns-in-None-clause-enters
 returns-in-None-clause-enters g c =
     let number = is_counted c.args.«package» c.next_number.new.self c.next_number.result c.thread.result c.next_number.ensures.is c.next_number.ensures.rest c.thread.ensures in
-    let told = (c.in-None.ensures {u = tt}).acts.adds.told.calls in
+    let told = (c.in-None.ensures {u = tt}).first.acts.adds.told.calls in
     let a = answer g.Q.Order.mark c.enter.result in
     (a, subst (λ (u : Turn). BeginsAs (g.Q.Order.notes c.args.queue.now (Enter u a)) c.args.parts.now.pass c.acquire_first.new.parts.pass) number.turn (begun_as _ c.args.parts.now.pass c.enter.new.pass c.acquire_first.new.parts.pass _ c.enter.ensures.told told))
 
@@ -72,3 +81,120 @@ returns-in-Behind-clause-enters g c =
     let after = acts_then (put_call p (Waiting c.args.lock) ∷ []) [] (Pack p ∷ []) [] [] c.enter.new.pass c.ship.new.pass c.link.new.pass c.ship.ensures.acts (acts_lined _ c.ship.new.pass c.link.new.pass c.link.ensures.told) in
     let a = answer g.Q.Order.mark c.enter.result in
     (a, subst (λ (u : Turn). BeginsAs (g.Q.Order.notes c.args.queue.now (Enter u a)) c.args.parts.now.pass c.link.new.pass) number.turn (begun_as _ c.args.parts.now.pass c.enter.new.pass c.link.new.pass _ c.enter.ensures.told after.adds.told.calls))
+
+pub enter-requires-clause-stands : goal.enter-requires-clause-stands
+enter-requires-clause-stands g c = λ i of lined.
+    let v = c.args.parts.now.pass.knows in
+    let q = c.args.«package» in
+    let own : Turn = record { thread = c.thread.result; number = c.next_number.result } in
+    let laws = g.met.Q.Order g.world.𝓛 g.world.𝓜 g.world.𝓡 ((λ s x. x), (λ x. x), (λ x. x), λ x. x) in
+    let same : i ≡ c.args.lock = laws.alone c.args.queue.now c.args.hall.now i c.args.lock c.requires.line.0 of c.requires.line.1 lined in
+    let thread : own.thread ≡ q.context.thread = c.thread.ensures ∙ ap (λ (x : PackageView). x.context.thread) c.next_number.ensures.rest in
+    let out : Has v q.context.thread (bare q) = is_there v.packages q.context.thread (bare q) (c.requires.parts.out.1.0.contexts q.context.thread (bare q) (ap (λ (b : Bool). if b then Some (bare q) else None) (eq_self q.context.thread))) in
+    subst (λ (j : ℕ). HasStop v ⊎ EntersAs v j own) (sym same)
+    (enters_as c.args.hall.now.terms v c.args.lock own q c.args.parts.now.aside (λ d e. (c.requires.parts.aside d e).free) thread c.requires.lines
+    (subst (λ (t : ℕ). Has v t (bare q)) (sym thread) out) c.requires.may.want (wants_absent q c.args.lock c.requires.may.want c.requires.may.plain.locks) c.next_number.ensures.is lined)
+
+pub acquire_first-requires-clause-lines : goal.acquire_first-requires-clause-lines
+acquire_first-requires-clause-lines g c =
+    let k = c.args.hall.now.terms in
+    let v = c.args.parts.now.pass.knows in
+    let w = c.enter.new.pass.knows in
+    let q = c.args.«package» in
+    let a = c.args.parts.now.aside in
+    let own : Turn = record { thread = c.thread.result; number = c.next_number.result } in
+    let laws = g.met.Q.Order g.world.𝓛 g.world.𝓜 g.world.𝓡 ((λ s x. x), (λ x. x), (λ x. x), λ x. x) in
+    let thread : own.thread ≡ q.context.thread = c.thread.ensures ∙ ap (λ (x : PackageView). x.context.thread) c.next_number.ensures.rest in
+    let did = first_past k c.args.lock own (λ (d : LineCall) (cs : List PassCall). g.Q.Order.notes c.args.queue.now d cs) c.args.parts.now.pass c.enter.new.pass (λ cs lined n. laws.lined c.args.queue.now c.args.hall.now c.args.lock (Enter own First) cs c.requires.line.0 c.requires.line.1 lined n) (c.in-First.ensures {u = tt}).told in
+    let apart : (d : PackageView) → a ≡ Some d → d.context.thread ≢ own.thread = λ d e same.
+    aside_apart v q d c.requires.parts.out.0 (subst (λ (o : Option PackageView). Owns c.requires.parts.out.0 (outs v) (Pack q ∷ packed o)) e c.requires.parts.out.1) (same ∙ thread) in
+    let entered : EnteredAs k w c.args.lock own None (Pack (with_turns own.number q) ∷ packed a) = entered_as k v c.args.lock own q a (λ d e. (c.requires.parts.aside d e).free) thread c.requires.lines w None Own_first (λ s. refl) did apart in
+    subst (λ (x : PackageView). EnteredAs k w c.args.lock (turn_by x.context.thread own.number) None (Pack x ∷ packed a)) (sym c.next_number.ensures.rest)
+    (subst (λ (t : ℕ). EnteredAs k w c.args.lock (turn_by t own.number) None (Pack (with_turns own.number q) ∷ packed a)) thread entered)
+
+pub ship-requires-clause-stands : goal.ship-requires-clause-stands
+ship-requires-clause-stands g c =
+    let k = c.args.hall.now.terms in
+    let v = c.args.parts.now.pass.knows in
+    let w = c.enter.new.pass.knows in
+    let q = c.args.«package» in
+    let p = c.next_number.new.self in
+    let a = c.args.parts.now.aside in
+    let own : Turn = record { thread = c.thread.result; number = c.next_number.result } in
+    let laws = g.met.Q.Order g.world.𝓛 g.world.𝓜 g.world.𝓡 ((λ s x. x), (λ x. x), (λ x. x), λ x. x) in
+    let free : (d : PackageView) → a ≡ Some d → HasNone d = λ d e. (c.requires.parts.aside d e).free in
+    let thread : own.thread ≡ q.context.thread = c.thread.ensures ∙ ap (λ (x : PackageView). x.context.thread) c.next_number.ensures.rest in
+    let told = (c.in-Behind.ensures {u = tt}).told in
+    let apart : (d : PackageView) → a ≡ Some d → d.context.thread ≢ own.thread = λ d e same.
+    aside_apart v q d c.requires.parts.out.0 (subst (λ (o : Option PackageView). Owns c.requires.parts.out.0 (outs v) (Pack q ∷ packed o)) e c.requires.parts.out.1) (same ∙ thread) in
+    let still = still_asks k c.args.lock q p c.next_number.result c.next_number.ensures.rest c.requires.may in
+    let absent = wants_absent p c.args.lock still.want still.plain.locks in
+    let held = no_other p still.plain.locks in
+    let did : k.lined ≡ true → (b : Turn) × EnteredAs k w c.args.lock (last_turn p) (Some b) (Pack p ∷ packed a) = λ lined.
+    let past = behind_past k c.args.lock own (g.Q.Order.mark c.in-Behind.place) (g.Q.Order.notes c.args.queue.now (Enter own (Behind (g.Q.Order.mark c.in-Behind.place)))) c.args.parts.now.pass c.enter.new.pass told
+    (laws.lined c.args.queue.now c.args.hall.now c.args.lock (Enter own (Behind (g.Q.Order.mark c.in-Behind.place))) told.calls c.requires.line.0 c.requires.line.1 lined told.notes) in (
+      past.0,
+      subst (λ (x : PackageView). EnteredAs k w c.args.lock (last_turn x) (Some past.0) (Pack x ∷ packed a)) (sym c.next_number.ensures.rest)
+          (subst (λ (t : ℕ). EnteredAs k w c.args.lock (turn_by t own.number) (Some past.0) (Pack (with_turns own.number q) ∷ packed a)) thread
+          (entered_as k v c.args.lock own q a free thread c.requires.lines w (Some past.0) (Own_behind past.0) (λ s. refl) past.1 apart)),
+    ) in
+    λ lined. inr (let d = did lined in ships_as k w c.args.lock d.0 p a free absent held d.1 lined)
+
+pub link-requires-clause-stands : goal.link-requires-clause-stands
+link-requires-clause-stands g c =
+    let k = c.args.hall.now.terms in
+    let v = c.args.parts.now.pass.knows in
+    let w = c.enter.new.pass.knows in
+    let q = c.args.«package» in
+    let p = c.next_number.new.self in
+    let a = c.args.parts.now.aside in
+    let own : Turn = record { thread = c.thread.result; number = c.next_number.result } in
+    let laws = g.met.Q.Order g.world.𝓛 g.world.𝓜 g.world.𝓡 ((λ s x. x), (λ x. x), (λ x. x), λ x. x) in
+    let free : (d : PackageView) → a ≡ Some d → HasNone d = λ d e. (c.requires.parts.aside d e).free in
+    let thread : own.thread ≡ q.context.thread = c.thread.ensures ∙ ap (λ (x : PackageView). x.context.thread) c.next_number.ensures.rest in
+    let told = (c.in-Behind.ensures {u = tt}).told in
+    let apart : (d : PackageView) → a ≡ Some d → d.context.thread ≢ own.thread = λ d e same.
+    aside_apart v q d c.requires.parts.out.0 (subst (λ (o : Option PackageView). Owns c.requires.parts.out.0 (outs v) (Pack q ∷ packed o)) e c.requires.parts.out.1) (same ∙ thread) in
+    let still = still_asks k c.args.lock q p c.next_number.result c.next_number.ensures.rest c.requires.may in
+    let absent = wants_absent p c.args.lock still.want still.plain.locks in
+    let held = no_other p still.plain.locks in
+    let did : k.lined ≡ true → (b : Turn) × EnteredAs k w c.args.lock (last_turn p) (Some b) (Pack p ∷ packed a) = λ lined.
+    let past = behind_past k c.args.lock own (g.Q.Order.mark c.in-Behind.place) (g.Q.Order.notes c.args.queue.now (Enter own (Behind (g.Q.Order.mark c.in-Behind.place)))) c.args.parts.now.pass c.enter.new.pass told
+    (laws.lined c.args.queue.now c.args.hall.now c.args.lock (Enter own (Behind (g.Q.Order.mark c.in-Behind.place))) told.calls c.requires.line.0 c.requires.line.1 lined told.notes) in (
+      past.0,
+      subst (λ (x : PackageView). EnteredAs k w c.args.lock (last_turn x) (Some past.0) (Pack x ∷ packed a)) (sym c.next_number.ensures.rest)
+          (subst (λ (t : ℕ). EnteredAs k w c.args.lock (turn_by t own.number) (Some past.0) (Pack (with_turns own.number q) ∷ packed a)) thread
+          (entered_as k v c.args.lock own q a free thread c.requires.lines w (Some past.0) (Own_behind past.0) (λ s. refl) past.1 apart)),
+    ) in
+    let lines : KnowsLines k c.ship.new.pass.knows (packed a) = if_lined k c.ship.new.pass.knows (packed a) (λ lined. let d = did lined in ship_lines k w c.args.lock d.0 p a free absent held d.1 c.ship.new.pass.knows c.ship.ensures.told) in
+    λ i of lined. inr (links_as k c.ship.new.pass.knows i own a free lines lined)
+
+pub returns-in-Behind-clause-lines : goal.returns-in-Behind-clause-lines
+returns-in-Behind-clause-lines g c =
+    let k = c.args.hall.now.terms in
+    let v = c.args.parts.now.pass.knows in
+    let w = c.enter.new.pass.knows in
+    let q = c.args.«package» in
+    let p = c.next_number.new.self in
+    let a = c.args.parts.now.aside in
+    let own : Turn = record { thread = c.thread.result; number = c.next_number.result } in
+    let laws = g.met.Q.Order g.world.𝓛 g.world.𝓜 g.world.𝓡 ((λ s x. x), (λ x. x), (λ x. x), λ x. x) in
+    let free : (d : PackageView) → a ≡ Some d → HasNone d = λ d e. (c.requires.parts.aside d e).free in
+    let thread : own.thread ≡ q.context.thread = c.thread.ensures ∙ ap (λ (x : PackageView). x.context.thread) c.next_number.ensures.rest in
+    let told = (c.in-Behind.ensures {u = tt}).told in
+    let apart : (d : PackageView) → a ≡ Some d → d.context.thread ≢ own.thread = λ d e same.
+    aside_apart v q d c.requires.parts.out.0 (subst (λ (o : Option PackageView). Owns c.requires.parts.out.0 (outs v) (Pack q ∷ packed o)) e c.requires.parts.out.1) (same ∙ thread) in
+    let still = still_asks k c.args.lock q p c.next_number.result c.next_number.ensures.rest c.requires.may in
+    let absent = wants_absent p c.args.lock still.want still.plain.locks in
+    let held = no_other p still.plain.locks in
+    let did : k.lined ≡ true → (b : Turn) × EnteredAs k w c.args.lock (last_turn p) (Some b) (Pack p ∷ packed a) = λ lined.
+    let past = behind_past k c.args.lock own (g.Q.Order.mark c.in-Behind.place) (g.Q.Order.notes c.args.queue.now (Enter own (Behind (g.Q.Order.mark c.in-Behind.place)))) c.args.parts.now.pass c.enter.new.pass told
+    (laws.lined c.args.queue.now c.args.hall.now c.args.lock (Enter own (Behind (g.Q.Order.mark c.in-Behind.place))) told.calls c.requires.line.0 c.requires.line.1 lined told.notes) in (
+      past.0,
+      subst (λ (x : PackageView). EnteredAs k w c.args.lock (last_turn x) (Some past.0) (Pack x ∷ packed a)) (sym c.next_number.ensures.rest)
+          (subst (λ (t : ℕ). EnteredAs k w c.args.lock (turn_by t own.number) (Some past.0) (Pack (with_turns own.number q) ∷ packed a)) thread
+          (entered_as k v c.args.lock own q a free thread c.requires.lines w (Some past.0) (Own_behind past.0) (λ s. refl) past.1 apart)),
+    ) in
+    let lines : KnowsLines k c.ship.new.pass.knows (packed a) = if_lined k c.ship.new.pass.knows (packed a) (λ lined. let d = did lined in ship_lines k w c.args.lock d.0 p a free absent held d.1 c.ship.new.pass.knows c.ship.ensures.told) in
+    same_lines k c.ship.new.pass.knows c.link.new.pass.knows (packed a) (link_same k c.args.lock (g.Q.Order.mark c.in-Behind.place) own (g.Q.Order.notes c.args.queue.now (Link (g.Q.Order.mark c.in-Behind.place) own)) c.ship.new.pass c.link.new.pass c.link.ensures.told
+    (λ lined. laws.lined c.args.queue.now c.args.hall.now c.args.lock (Link (g.Q.Order.mark c.in-Behind.place) own) c.link.ensures.told.calls c.requires.line.0 c.requires.line.1 lined c.link.ensures.told.notes)) lines

@@ -8,12 +8,18 @@ use Rattle.tc_combiner.proofs.calls.put.Goals as goal
 
 pub put-requires-clause-ready : goal.put-requires-clause-ready
 put-requires-clause-ready c = record {
-  has = is_there c.args.pass.now.knows.packages c.args.«package».context.thread (bare c.args.«package») (c.requires.out.contexts c.args.«package».context.thread (bare c.args.«package») (ap (λ b. if b then Some (bare c.args.«package») else None) (eq_self c.args.«package».context.thread)));
-  locks = λ i l e. is_there c.args.pass.now.knows.locks i (kept l) (c.requires.out.locks i (kept l) (ap keep e));
-  order = c.requires.order;
-  stop = λ e. let p = c.requires.free in let n : ⊥ = cc in absurd n;
-  fits = λ e. c.requires.fits;
+  has = is_there c.args.pass.now.knows.packages c.args.«package».context.thread (bare c.args.«package») (c.requires.may.out.contexts c.args.«package».context.thread (bare c.args.«package») (ap (λ b. if b then Some (bare c.args.«package») else None) (eq_self c.args.«package».context.thread)));
+  locks = λ i l e. is_there c.args.pass.now.knows.locks i (kept l) (c.requires.may.out.locks i (kept l) (ap keep e));
+  order = c.requires.may.order;
+  stop = λ e. let p = c.requires.may.free in let n : ⊥ = cc in absurd n;
+  fits = λ e. c.requires.may.fits;
 }
 
-pub returns : goal.returns
-returns c = acts_told (put_call c.args.«package» c.args.place ∷ []) (put_call c.args.«package» c.args.place ∷ []) _ [] c.args.pass.now c.put.new.pass refl tt c.put.ensures.own c.put.ensures.put.called (moves_in c.args.pass.now.knows c.put.new.pass.knows (Pack c.args.«package») c.put.ensures.put.rest) (ap (λ (w : Knows). w.missed) c.put.ensures.put.now)
+pub returns-clause-acts : goal.returns-clause-acts
+returns-clause-acts c = acts_told (put_call c.args.«package» c.args.place ∷ []) (put_call c.args.«package» c.args.place ∷ []) _ [] c.args.pass.now c.put.new.pass refl tt c.put.ensures.own c.put.ensures.put.called (moves_in c.args.pass.now.knows c.put.new.pass.knows (Pack c.args.«package») c.put.ensures.put.rest) (ap (λ (w : Knows). w.missed) c.put.ensures.put.now)
+
+pub returns-clause-told : goal.returns-clause-told
+returns-clause-told c = c.put.ensures.put.called.calls
+
+pub put-requires-clause-stands : goal.put-requires-clause-stands
+put-requires-clause-stands c = c.requires.stands

@@ -1,11 +1,12 @@
 use Rattle.std.proofs.Common.{◌<◌, false, map, length, arith, rules}
 use Rattle.tc_combiner.proofs.Vocabulary.{Change, DidLeave, DeskParts, PackageView, SeatView, change, length-map, locks}
 use Rattle.tc_combiner.proofs.Ending.{leaves_first, leaves_home, leaves_more, left_all, less_falls, may_next, may_release, none_left, seat_in}
+use Rattle.tc_combiner.proofs.Leaving.{still_at, stop_at}
 use Rattle.tc_combiner.proofs.Seats.{at_seat}
 use Rattle.tc_combiner.proofs.ends.end_all.Goals as goal
 
 pub loop-lock-init : goal.loop-lock-init
-loop-lock-init g c = leaves_first c.args.shared.now.hall.now c.args.block.now c.args.«package».now (map g.Q.Order.seen c.args.seats.now) c.args.parts.now c.requires.parts c.requires.may.locks
+loop-lock-init g c = leaves_first c.args.shared.now.hall.now c.args.block.now c.args.«package».now (map g.Q.Order.seen c.args.seats.now) c.args.parts.now c.requires.parts c.requires.may.locks c.requires.knows
 
 pub offset_bounds-shared-lock : goal.offset_bounds-shared-lock
 offset_bounds-shared-lock g c =
@@ -49,15 +50,21 @@ loop-lock-preserved g c =
     let deep : c.in-Some.lock < length c.loop-lock.seats = (let size = c.requires.seats.seats in let count = c.loop-lock.invariant.count in let old = length-map c.args.seats.now g.Q.Order.seen in let new = length-map c.loop-lock.seats g.Q.Order.seen in omega arith) in
     let p : Change PackageView = change c.loop-lock.«package» c.end_one-stopped.new.«package» in
     let parts : Change DeskParts = change c.loop-lock.parts c.end_one-stopped.new.parts in
-    let e = c.end_one-stopped.ensures in
+    let e = c.end_one-stopped.ensures.left in
     let at = at_seat g.Q.Order.seen (λ (s t : SeatView). DidLeave c.args.shared.now.hall.now.terms c.in-Some.lock c.args.block.now p (change s t) parts (change false c.end_one-stopped.result)) c.loop-lock.seats c.in-Some.lock c.index-seats-lock.result c.end_one-stopped.new.seat deep c.index-seats-lock.is (e.asks.table, e.asks.threads) e in
-    leaves_more c.loop-lock.invariant c.if-stopped.false c.in-Some.ensures.value.0 c.in-Some.ensures.value.1 c.in-Some.ensures.bound c.less-rest.ensures.each at
+    leaves_more c.loop-lock.invariant c.if-stopped.false c.in-Some.ensures.value.0 c.in-Some.ensures.value.1 c.in-Some.ensures.bound c.less-rest.ensures.each at c.requires.parts.at.out c.end_one-stopped.ensures.lines
 
-pub returns : goal.returns
-returns g c = left_all (none_left _ _ c.first_release.result c.first_release.ensures.value c.in_default.not-Some) c.loop-lock.invariant
+pub returns-clause-left : goal.returns-clause-left
+returns-clause-left g c = left_all (none_left _ _ c.first_release.result c.first_release.ensures.value c.in_default.not-Some) c.loop-lock.invariant
 
-pub free_one-requires : goal.free_one-requires
-free_one-requires g c = record {
+pub returns-clause-knows : goal.returns-clause-knows
+returns-clause-knows g c = c.loop-lock.invariant.lines
+
+pub free_one-requires-clause-stop : goal.free_one-requires-clause-stop
+free_one-requires-clause-stop g c = stop_at c.args.shared.now.hall.now.terms c.args.parts.now.pass.knows c.loop-lock.parts.pass.knows c.loop-lock.«package» c.loop-lock.stopped c.if-stopped.true c.loop-lock.invariant.lines
+
+pub free_one-requires-clause-may : goal.free_one-requires-clause-may
+free_one-requires-clause-may g c = record {
   parts = may_next c.less-rest.result c.in-Some.lock c.requires.parts c.loop-lock.invariant c.in-Some.ensures.value.0 c.in-Some.ensures.bound c.less-rest.ensures.each;
   release = may_release c.requires.may c.loop-lock.invariant c.in-Some.ensures.value.0;
 }
@@ -71,4 +78,7 @@ loop-lock-smaller-then-stopped g c = less_falls c.loop-lock.rest c.in-Some.lock 
 pub end_one-stopped-requires-clause-line : goal.end_one-stopped-requires-clause-line
 end_one-stopped-requires-clause-line g c = λ κs b.
     let low : c.in-Some.lock < locks c.args.shared.now.hall.now.terms = c.requires.may.known c.in-Some.lock (c.loop-lock.invariant.within c.in-Some.lock c.in-Some.ensures.value.0) in
-    let size = c.requires.seats.queues in c.requires.lines c.in-Some.lock c.index-shared-lock.result (omega arith)
+    let size = c.requires.seats.queues in (c.requires.lines c.in-Some.lock c.index-shared-lock.result (omega arith), c.requires.order c.in-Some.lock c.index-shared-lock.result (omega arith))
+
+pub end_one-stopped-requires-clause-lines : goal.end_one-stopped-requires-clause-lines
+end_one-stopped-requires-clause-lines g c = λ κs b. (still_at c.args.shared.now.hall.now.terms c.args.parts.now.pass.knows c.loop-lock.parts.pass.knows c.loop-lock.«package» c.loop-lock.stopped c.if-stopped.false c.loop-lock.invariant.lines).lines

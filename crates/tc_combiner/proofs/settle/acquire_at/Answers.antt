@@ -23,10 +23,19 @@ returns-clause-enters g c =
     let enters = c.acquire_with.ensures.enters in
     record {
       line = get_or c.args.shared.now.queues.now c.args.lock c.index-shared-lock.result;
-      fitting = (c.requires.lines c.args.lock c.index-shared-lock.result (omega arith), c.requires.order c.args.lock c.index-shared-lock.result (omega arith));
+      fitting = (c.requires.lines.0 c.args.lock c.index-shared-lock.result (omega arith), c.requires.lines.1 c.args.lock c.index-shared-lock.result (omega arith));
       answer = enters.0;
       begins = enters.1;
     }
 
 pub acquire_with-requires-clause-line : goal.acquire_with-requires-clause-line
-acquire_with-requires-clause-line g c = λ κs b. c.requires.lines c.args.lock c.index-shared-lock.result (let low = c.requires.may.lock in let size = c.requires.seats.queues in omega arith)
+acquire_with-requires-clause-line g c = λ κs b.
+    let low = c.requires.may.lock in
+    let size = c.requires.seats.queues in
+    (c.requires.lines.0 c.args.lock c.index-shared-lock.result (omega arith), c.requires.lines.1 c.args.lock c.index-shared-lock.result (omega arith))
+
+pub acquire_with-requires-clause-lines : goal.acquire_with-requires-clause-lines
+acquire_with-requires-clause-lines g c = λ κs b. c.requires.knows
+
+pub returns-clause-knows : goal.returns-clause-knows
+returns-clause-knows g c = c.acquire_with.ensures.lines

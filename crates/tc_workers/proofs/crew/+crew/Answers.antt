@@ -49,6 +49,9 @@ join-requires-clause-own g t c =
     let rest = c.join-own.ensures.second in
     ((own.0.still.own.0 ∙ work.desk.seat.fits.own) ∙ sym table, rest.end.own ∙ sym table)
 
+pub join-requires-clause-both : goal.join-requires-clause-both
+join-requires-clause-both g t c = λ lined. c.join-own.ensures.first.0.free
+
 pub returns : goal.returns
 returns g t c =
     let work = (at_work_last c.args.bench.now c.pop.new.self.items c.args.crew.items c.in-Some.worker c.requires.work c.in-Some.ensures.items).0 in

@@ -1,10 +1,17 @@
 use Rattle.std.proofs.Common.{None, sym, ap, subst, ◌∙◌}
 use Rattle.tc_hall.specs.PassView.{PassView}
-use Rattle.tc_combiner.specs.View.{DeskView}
+use Rattle.tc_hall.specs.Places.{origin_code, place_of}
+use Rattle.tc_hall.specs.Standing.{ClaimsAs, IfLined}
+use Rattle.tc_combiner.specs.View.{BenchView, DeskView}
 use Rattle.tc_workers.specs.Worker.{HasClaimed, IsUnmoved}
-use Rattle.tc_workers.proofs.Desks.{at_still, one_claimed}
+use Rattle.tc_workers.proofs.Desks.{at_still, may_claim, one_claimed}
 use Rattle.tc_workers.proofs.Passes.{unmoved_missed}
 use Rattle.tc_workers.proofs.find.try_claim.Goals as goal
+
+pub claim-requires-clause-stands : goal.claim-requires-clause-stands
+claim-requires-clause-stands g c =
+    let v = c.pass.result.now.knows in
+    subst (λ (b : BenchView). IfLined b.hall.terms v (ClaimsAs v c.args.t (place_of (origin_code c.args.from)))) (sym c.bench.view_is) (may_claim c.args.bench.now c.args.desk.now c.pass.result.now c.args.from c.args.t c.requires.idle c.pass.ensures.value)
 
 pub take_up-requires-clause-claimed : goal.take_up-requires-clause-claimed
 take_up-requires-clause-claimed g c κs within = subst (HasClaimed c.args.bench.now c.in-Ok.«package») (sym c.number.ensures.same)

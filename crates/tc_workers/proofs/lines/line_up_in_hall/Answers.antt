@@ -1,4 +1,4 @@
-use Rattle.std.proofs.Common.{rules, ⊎_elim, ◌≡◌, ℕ, ◌∙◌, ◌++◌, ◌∷◌, List, [], length, map, sym, ap, subst, arith, Vec, Global}
+use Rattle.std.proofs.Common.{rules, ⊎_elim, ◌≡◌, ◌∙◌, ◌++◌, ◌∷◌, List, [], length, map, sym, ap, subst, arith, Vec, Global}
 use Rattle.std.proofs.lemmas.List.{length-map, map-append}
 use Rattle.tc_mutex_spec.proofs.ListLaws.{there}
 use Rattle.tc_queue.specs.View.{QueueView}

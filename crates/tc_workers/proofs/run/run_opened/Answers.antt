@@ -1,15 +1,18 @@
 use Rattle.std.proofs.Common.{◌≡◌, ◌∙◌, ◌≤◌, ◌*◌, ℕ, List, All, length, map, min, sym, ap, subst}
 use Rattle.std.proofs.lemmas.Result.{IfOk-weaker}
 use lib.ListN.{length-map}
+use Rattle.tc_isa.specs.declared.options.Options.{Options}
 use Rattle.tc_elf.specs.Shown.{Shown}
 use Rattle.tc_hall.specs.PassView.{ClosedView}
 use Rattle.tc_order.specs.Order.{AreInOrder}
-use Rattle.tc_hall.specs.Steps.{IsEnd}
+use Rattle.tc_hall.specs.Closing.{IsEnd}
 use Rattle.tc_workers.specs.Crew.{HasRun}
-use Rattle.tc_ready.specs.ReadyView.{AreCrew}
+use Rattle.tc_ready.specs.ReadyView.{AreCrew, ReadyView}
 use Rattle.tc_workers.specs.Run.{HaveRoom, IsWholeRun}
+use Rattle.tc_workers.specs.StepWith.{CanHave}
 use Rattle.tc_workers.proofs.Hiring.{for_hire, same_lines}
 use Rattle.tc_workers.proofs.Joining.{closed_so, has_run, whole}
+use Rattle.tc_workers.proofs.Machine.{closed_run}
 use Rattle.tc_workers.proofs.run.run_opened.Goals as goal
 
 pub invariant_of-bench : goal.invariant_of-bench
@@ -35,12 +38,18 @@ returns-clause-whole g c =
     IfOk-weaker c.finish.result (λ (d : ClosedView). IsEnd hall.terms knows d.packages d.locks) (λ (d : ClosedView). IsWholeRun c.args.image.now c.args.options d)
     (λ d end. whole c.args.image.now c.args.options hall knows d c.requires.hall end) c.finish.ensures.end
 
+-- the workers' lists of ready threads have room
+has_room : (x : Shown) (o : Options) (n room : ℕ) (ready : List ReadyView) → n ≡ length x.entries → AreCrew o.workers n room ready → ((sections : ℕ) → CanHave o.fuel sections → min (n * sections) 256 ≤ room) → HaveRoom x o ready
+has_room x o n room ready count crew enough = record {
+  room = room;
+  crew = subst (λ (m : ℕ). AreCrew o.workers m room ready) count crew;
+  enough = λ s can. subst (λ (m : ℕ). min (m * s) 256 ≤ room) count (enough s can);
+}
+
 pub returns-clause-crew : goal.returns-clause-crew
 returns-clause-crew g c =
-    let count = c.threads-threads.ensures.value in
-    let room : HaveRoom c.args.image.now c.args.options c.in_ok-ready.ready.items = record {
-      room = c.room_of-room.result;
-      crew = subst (λ (n : ℕ). AreCrew c.args.options.workers n c.room_of-room.result c.in_ok-ready.ready.items) count c.in_ok-ready.ensures;
-      enough = λ s can. subst (λ (n : ℕ). min (n * s) 256 ≤ c.room_of-room.result) count (c.room_of-room.ensures.enough s can);
-    } in
-    closed_so _ c.args.image.now c.args.options _ c.in_ok-ready.ready.items c.in_ok-finished.finished.pass c.in_ok-finished.finished.all_done c.finish.result c.requires.hall room c.in_ok-finished.ensures c.finish.ensures.end c.finish.ensures.done
+    closed_so _ c.args.image.now c.args.options _ c.in_ok-ready.ready.items c.in_ok-finished.finished.pass c.in_ok-finished.finished.all_done c.finish.result c.requires.hall (has_room _ _ _ _ _ c.threads-threads.ensures.value c.in_ok-ready.ensures c.room_of-room.ensures.enough) c.in_ok-finished.ensures c.finish.ensures.end c.finish.ensures.done
+
+pub returns-clause-runs : goal.returns-clause-runs
+returns-clause-runs g c lined =
+    closed_run _ c.args.image.now c.args.options _ c.in_ok-ready.ready.items c.in_ok-finished.finished.pass c.in_ok-finished.finished.all_done c.finish.result c.requires.hall (has_room _ _ _ _ _ c.threads-threads.ensures.value c.in_ok-ready.ensures c.room_of-room.ensures.enough) c.in_ok-finished.ensures c.finish.ensures.end c.finish.ensures.done lined

@@ -15,4 +15,4 @@ pub returns-clause-sealed : goal.returns-clause-sealed
 returns-clause-sealed g c =
     let done = c.commit.ensures in
     one_sealed c.args.bench.now c.in_ok-end.end c.args.«package».now c.run_one.new.«package» c.args.desk.now _ c.requires.work c.requires.want (ap (λ (b : BenchView). b.image) c.bench.view_is) c.in_ok-end.ensures
-    c.commit.result c.commit.new.«package» c.commit.new.self done.fits done.moves done.sealed done.context (ap (λ (d : DeskView). d.aside) done.rest) (ap (λ (d : DeskView). length d.sleepers) done.rest)
+    c.commit.result c.commit.new.«package» c.commit.new.self done.fits done.keeps done.sealed done.context (ap (λ (d : DeskView). d.aside) done.rest) (ap (λ (d : DeskView). length d.sleepers) done.rest)

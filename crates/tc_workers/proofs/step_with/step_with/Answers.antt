@@ -6,8 +6,8 @@ use Rattle.tc_workers.specs.StepWith.{GivesUp, gives_up}
 use Rattle.tc_workers.specs.Worker.{IsStep, put_back}
 use Rattle.tc_workers.specs.declared.step.Step.{Step}
 use Rattle.tc_workers.proofs.Desks.{after_settle}
-use Rattle.tc_workers.proofs.Passes.{stop_told}
 use Rattle.tc_workers.proofs.step_with.step_with.Goals as goal
+use Rattle.tc_hall.proofs.Stops.{stop_told}
 
 pub returns-in-Err-clause-steps : goal.returns-in-Err-clause-steps
 returns-in-Err-clause-steps g c =

@@ -1,21 +1,38 @@
-use Rattle.std.proofs.Common.{[], ◌∷◌, map, refl, sym, ap, ◌∙◌, subst}
-use Rattle.tc_combiner.proofs.Vocabulary.{DeskView, FitsBench, IsInHand, Knows, MayCommit, Moves, MovesSealed, Pack, PackageView, desk_of, packed}
+use Rattle.std.proofs.Common.{◌≡◌, [], ◌∷◌, map, Some, refl, sym, ap, ◌∙◌, subst}
+use Rattle.tc_hall.specs.Standing.{IfLined, SealsPending}
+use Rattle.tc_combiner.specs.Settling.{KeepsSealed}
+use Rattle.tc_combiner.specs.Stances.{KnowsLines}
+use Rattle.tc_combiner.proofs.Vocabulary.{BenchView, DeskView, FitsBench, HallTerms, HasNone, IsInHand, Knows, MayCommit, Moves, Pack, PackageView, desk_of, packed}
 use Rattle.tc_combiner.proofs.Fitting.{fits_after}
 use Rattle.tc_combiner.proofs.Ending.{seats_first}
-use Rattle.tc_combiner.proofs.Sealing.{may_seal, sealed_moves}
+use Rattle.tc_combiner.proofs.Sealing.{may_seal, seal_lines, sealed_moves, seals_pending}
 use Rattle.tc_combiner.proofs.Owning.{without_first}
 use Rattle.tc_combiner.proofs.desk.Desk.commit.Goals as goal
 
 pub commit-stamp-requires-clause-ready : goal.commit-stamp-requires-clause-ready
-commit-stamp-requires-clause-ready g c = may_seal _ c.args.«package».now (subst (λ (d : DeskView). MayCommit d c.args.«package».now) (sym c.self.view_is) c.requires.may)
+commit-stamp-requires-clause-ready g c = may_seal c.args.bench.now.hall.terms _ c.args.«package».now (subst (λ (d : DeskView). MayCommit c.args.bench.now.hall.terms d c.args.«package».now) (sym c.self.view_is) c.requires.may)
 
-pub returns-clause-moves : goal.returns-clause-moves
-returns-clause-moves g c =
+pub commit-stamp-requires-clause-stands : goal.commit-stamp-requires-clause-stands
+commit-stamp-requires-clause-stands g c =
+    let d : DeskView = desk_of c.self.inside.parts.pass (map g.Q.Order.seen c.self.inside.seats.items) c.self.inside.sleeping.sleepers c.self.inside.sleeping.clock c.self.inside.parts.aside c.self.inside.parts.ready.items in
+    let may : MayCommit c.args.bench.now.hall.terms d c.args.«package».now = subst (λ (z : DeskView). MayCommit c.args.bench.now.hall.terms z c.args.«package».now) (sym c.self.view_is) c.requires.may in
+    let free : (a : PackageView) → d.aside ≡ Some a → HasNone a = λ a e. (c.requires.fits.aside a (sym (ap (λ (z : DeskView). z.aside) c.self.view_is) ∙ e)).free in
+    subst (λ (x : BenchView). IfLined x.hall.terms d.pass.knows (SealsPending d.pass.knows c.args.«package».now)) (sym c.bench.view_is)
+    (seals_pending c.args.bench.now.hall.terms d.pass.knows may.before c.args.«package».now d.aside free may.ready may.ran)
+
+pub returns-clause-keeps : goal.returns-clause-keeps
+returns-clause-keeps g c =
     let q : PackageView = c.args.«package».now in
-    let v : Knows = c.self.inside.parts.pass.knows in
+    let k : HallTerms = c.args.bench.now.hall.terms in
+    let d : DeskView = desk_of c.self.inside.parts.pass (map g.Q.Order.seen c.self.inside.seats.items) c.self.inside.sleeping.sleepers c.self.inside.sleeping.clock c.self.inside.parts.aside c.self.inside.parts.ready.items in
+    let may : MayCommit k d q = subst (λ (z : DeskView). MayCommit k z q) (sym c.self.view_is) c.requires.may in
+    let free : (a : PackageView) → d.aside ≡ Some a → HasNone a = λ a e. (c.requires.fits.aside a (sym (ap (λ (z : DeskView). z.aside) c.self.view_is) ∙ e)).free in
+    let v : Knows = d.pass.knows in
     let w : Knows = c.commit-stamp.new.pass.knows in
-    subst (λ (d : DeskView). MovesSealed q c.commit-stamp.new.«package» d (record d { pass = c.commit-stamp.new.pass })) c.self.view_is
-    (λ p ran. subst (λ (z : PackageView). Moves v w (Pack p ∷ []) (Pack z ∷ [])) (sym c.commit-stamp.ensures.context) (sealed_moves v.image v w p q c.commit-stamp.result ran c.commit-stamp.ensures.seals))
+    subst (λ (z : DeskView). KeepsSealed k q c.commit-stamp.new.«package» z (record d { pass = c.commit-stamp.new.pass; now = c.saturating_add-self-inside.result })) c.self.view_is (record {
+      moves = λ p ran. subst (λ (z : PackageView). Moves v w (Pack p ∷ []) (Pack z ∷ [])) (sym c.commit-stamp.ensures.context) (sealed_moves v.image v w p q c.commit-stamp.result ran c.commit-stamp.ensures.seals);
+      lines = subst (λ (z : PackageView). KnowsLines k w (Pack z ∷ packed d.aside)) (sym c.commit-stamp.ensures.context) (seal_lines k v may.before q d.aside free may.ready may.ran w c.commit-stamp.result c.commit-stamp.ensures.seals);
+    })
 
 pub returns-clause-fits : goal.returns-clause-fits
 returns-clause-fits g c =

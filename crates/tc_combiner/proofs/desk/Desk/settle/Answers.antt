@@ -1,16 +1,16 @@
 use Rattle.std.proofs.Common.{map, refl, sym, ap, ◌∙◌, subst}
 use Rattle.tc_combiner.proofs.Vocabulary.{BenchView, DeskView, EntersFirst, HasSettled, MaySettle, Shown, next_turn}
-use Rattle.tc_combiner.proofs.Fitting.{at_bench, has_seats, kept_back}
+use Rattle.tc_combiner.proofs.Fitting.{at_bench, has_seats, kept_back, lines_at}
 use Rattle.tc_combiner.proofs.desk.Desk.settle.Goals as goal
 
 pub settle_with-requires-clause-lines : goal.settle_with-requires-clause-lines
-settle_with-requires-clause-lines g c = λ κs b. c.bench.invariant.0
-
-pub settle_with-requires-clause-order : goal.settle_with-requires-clause-order
-settle_with-requires-clause-order g c = λ κs b. c.bench.invariant.1
+settle_with-requires-clause-lines g c = λ κs b. c.bench.invariant
 
 pub settle_with-requires-clause-parts : goal.settle_with-requires-clause-parts
-settle_with-requires-clause-parts g c = λ κs b. at_bench _ c.args.bench.now c.args.self.now c.args.«package» _ _ c.bench.view_is c.requires.fits (ap (λ (d : DeskView). d.pass) c.self.view_is) (ap (λ (d : DeskView). d.aside) c.self.view_is) c.requires.hand
+settle_with-requires-clause-parts g c = λ κs b. record {
+  at = at_bench _ c.args.bench.now c.args.self.now c.args.«package» _ _ c.bench.view_is c.requires.fits (ap (λ (d : DeskView). d.pass) c.self.view_is) (ap (λ (d : DeskView). d.aside) c.self.view_is) c.requires.hand;
+  lines = lines_at _ c.args.bench.now c.args.self.now _ c.args.«package» c.bench.view_is c.self.view_is c.requires.knows;
+}
 
 pub settle_with-requires-clause-seats : goal.settle_with-requires-clause-seats
 settle_with-requires-clause-seats g c = λ κs b. has_seats g.Q.Order.queue g.Q.Order.seen _ c.args.bench.now c.args.self.now c.bench.inside.queues.now c.as_mut_slice.result.now c.bench.view_is c.requires.fits refl (ap (λ xs. map g.Q.Order.seen xs) c.as_mut_slice.ensures.value ∙ ap (λ (d : DeskView). d.seats) c.self.view_is)

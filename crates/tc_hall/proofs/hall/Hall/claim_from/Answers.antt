@@ -1,5 +1,7 @@
 use Rattle.std.proofs.Common.{◌≡◌, ◌+◌, ◌<◌, ℕ, ◌∷◌, Option, Some, None, refl, sym, ap, ◌∙◌, subst, arith}
 use Rattle.tc_hall.proofs.Vocabulary.{Gets, HallView, Has, IsAsLeft, IsClaimable, Knows, Package, PackageView, PassView, HallTerms, bare, of_package, rest, threads}
+use Rattle.tc_hall.specs.Places.{place_of}
+use Rattle.tc_hall.specs.Standing.{IfLined, ClaimsAs}
 use Rattle.tc_hall.proofs.Stepping.{Claims, claims, Lays, lays}
 use Rattle.tc_hall.proofs.Outs.{has_out}
 use Rattle.tc_hall.proofs.Holding.{got_slot, got_found, got_carried, got_view, got_last, got_empty}
@@ -8,13 +10,14 @@ use Rattle.tc_hall.proofs.hall.Hall.claim_from.Goals as goal
 pub compare_exchange-found-requires : goal.compare_exchange-found-requires
 compare_exchange-found-requires g c =
     let seat = c.pass.inside.seat in
+    let stands : IfLined c.self.inside.board.shared.key seat.me.0 (ClaimsAs seat.me.0 c.args.t (place_of c.args.code)) = subst (λ (z : HallView × PassView). IfLined z.0.terms z.1.knows (ClaimsAs z.1.knows c.args.t (place_of c.args.code))) (λ i. (sym c.self.view_is i, sym c.pass.view_is i)) c.requires.stands in
     let own = ap (λ (p : PassView). p.table) c.pass.view_is ∙ (c.requires.own ∙ sym (ap (λ (h : HallView). h.table) c.self.view_is)) in
     let below : c.args.t < threads c.self.inside.board.shared.key = subst (λ (h : HallView). c.args.t < threads h.terms) (sym c.self.view_is) c.requires.thread in
     let can : IsClaimable c.self.inside.board.shared.key c.args.code = subst (λ (h : HallView). IsClaimable h.terms c.args.code) (sym c.self.view_is) c.requires.code in (
       own,
       omega (arith, c.self.invariant.0, c.self.invariant.1, c.word_of-word.ensures),
       subst (λ (z : Option HallTerms × ℕ). Claims c.self.inside.board.shared.key z.0 c.self.inside.board.shared.table_id.slots seat.id z.1 c.args.code (512 + c.from-at.result) seat.me.0 seat.me.1) (λ i. (sym (c.requires.picked ∙ ap (λ (h : HallView). Some h.terms) (sym c.self.view_is)) i, sym c.word_of-word.ensures i))
-          (claims c.self.inside.board.shared.key _ seat.id c.args.t c.args.code _ seat.me.0 seat.me.1 c.pass.invariant.0 can (ap (λ (k : ℕ). 512 + k) (c.from-at.ensures ∙ c.pass.invariant.2)) below c.pass.invariant.3 c.pass.invariant.1),
+          (claims c.self.inside.board.shared.key _ seat.id c.args.t c.args.code _ seat.me.0 seat.me.1 c.pass.invariant.0 can (ap (λ (k : ℕ). 512 + k) (c.from-at.ensures ∙ c.pass.invariant.2)) below c.pass.invariant.3 c.pass.invariant.1 stands),
     )
 
 pub slot_mut-requires : goal.slot_mut-requires

@@ -4,6 +4,7 @@ use Rattle.tc_hall.proofs.Vocabulary.{HallView, Line, PassView, Sat, Turn, tail_
 use Rattle.tc_queue.specs.Calls.{IsTail, leave_call}
 use Rattle.tc_queue.specs.Asked.{leave}
 use Rattle.tc_hall.specs.Lines.{IsAsked, MayStand}
+use Rattle.tc_hall.specs.Standing.{IfLined, StandsAs, loose}
 use Rattle.tc_hall.proofs.Words.{tail_below}
 use Rattle.tc_hall.proofs.Lining.{asked_so, found_so, clears}
 use Rattle.tc_hall.proofs.hall.Hall.clear_tail.Goals as goal
@@ -15,12 +16,13 @@ compare_exchange-word-requires g c =
     let own = ap (λ (p : PassView). p.table) c.pass.view_is ∙ (c.requires.own ∙ sym (ap (λ (h : HallView). h.table) c.self.view_is)) in
     let may : MayStand key c.args.lock c.args.own.now = subst (λ (h : HallView). MayStand h.terms c.args.lock c.args.own.now) (sym c.self.view_is) c.requires.may in
     let asked : IsAsked (threads key) c.args.lock (leave c.args.own.now) g.J.Asking.threads g.J.Asking.lock g.J.Asking.ask = subst (λ (h : HallView). IsAsked (threads h.terms) c.args.lock (leave c.args.own.now) g.J.Asking.threads g.J.Asking.lock g.J.Asking.ask) (sym c.self.view_is) c.requires.asked in
+    let stands : IfLined key seat.me.0 (StandsAs seat.me.0 c.args.lock (loose c.args.own.now)) = subst (λ (z : HallView × PassView). IfLined z.0.terms z.1.knows (StandsAs z.1.knows c.args.lock (loose c.args.own.now))) (λ q. (sym c.self.view_is q, sym c.pass.view_is q)) c.requires.stands in
     let at : c.tail_of-place.result ≡ tail_word_of key c.args.lock = c.tail_of-place.ensures ∙ ap (λ (h : HallView). tail_word_of h.terms c.args.lock) (sym c.self.view_is) in
     let below = tail_below key c.args.lock may.lined may.lock in (
       own,
       omega (arith, at, below, c.self.invariant.1),
       found_so key _ seat.id c.tail_of-place.result seat.me (λ x. either (x == c.to_word.result) 0 x) (threads key) c.args.lock (leave c.args.own.now) _ _ _ asked
-          (clears key _ seat.id c.args.lock seat.me.0 seat.me.1 c.pass.invariant.0 c.pass.invariant.3 c.args.own.now _ _ may at c.to_word.ensures),
+          (clears key _ seat.id c.args.lock seat.me.0 seat.me.1 c.pass.invariant.0 c.pass.invariant.3 c.args.own.now _ _ may stands at c.to_word.ensures),
     )
 
 pub invariant_of-pass : goal.invariant_of-pass

@@ -2,7 +2,8 @@ use Rattle.std.proofs.Common.{◌≡◌, ◌<◌, ◌+◌, ℕ, [], ◌∷◌, S
 use Rattle.tc_hall.proofs.Vocabulary.{Freed, HallView, Knows, Lock, MayFree, PassView, Sat, kept, locks, of_lock, rest, slot_word, threads}
 use Rattle.tc_hall.proofs.Cases.{clash}
 use Rattle.tc_hall.proofs.Stepping.{FreesAll, frees, Reaches, reaches}
-use Rattle.tc_hall.proofs.Putting.{freed}
+use Rattle.tc_hall.specs.Standing.{IfLined, FreesAs}
+use Rattle.tc_hall.proofs.Putting.{freed, frees_still}
 use Rattle.tc_hall.proofs.Holding.{put_slot, put_found, put_carried, put_view}
 use Rattle.tc_hall.proofs.hall.Hall.free.Goals as goal
 
@@ -45,6 +46,7 @@ store-requires c =
     let slot : ℕ = c.self.inside.threads + c.number.result in
     let below : l.number < locks key = subst (λ (h : HallView). l.number < locks h.terms) (sym c.self.view_is) c.requires.lock in
     let may : MayFree m.0 l = subst (λ (p : PassView). MayFree p.knows l) (sym c.pass.view_is) c.requires.ready in
+    let stands : IfLined key m.0 (FreesAs m.0 l.number) = subst (λ (z : HallView × PassView). IfLined z.0.terms z.1.knows (FreesAs z.1.knows l.number)) (λ i. (sym c.self.view_is i, sym c.pass.view_is i)) c.requires.stands in
     let at : threads key + l.number ≡ slot = (let n = c.self.invariant.0 in let e = c.number.ensures in omega arith) in
     let got = did.2 slot c.word_of.ensures in
     let view = put_view slot (Lock l) m c.load.new.seat.me c.pass.invariant.0 got in (
@@ -53,7 +55,7 @@ store-requires c =
       subst (λ (z : ℕ). FreesAll key c.self.inside.board.shared.table_id.slots c.load.new.seat.id z m1.0 ((slot, c.replace.new.self) ∷ rest m1.1)) (ap slot_word at ∙ sym c.word_of-2.ensures)
           (frees key _ _ m1.0 l _
           (put_carried slot (Lock l) m c.load.new.seat.me c.pass.invariant.0 got c.replace.new.self c.replace.ensures.left ∙ ap (λ (z : ℕ). (z, Some (Lock l)) ∷ []) (sym at))
-          (ap (λ (z : Knows). z.open_slot) view ∙ ap (λ (z : ℕ). Some z) (sym at)) (ap (λ (z : Knows). z.spent) view ∙ c.pass.invariant.3) (subst (λ (z : Knows). MayFree z l) (sym view) record { has = may.has; rests = may.rests })),
+          (ap (λ (z : Knows). z.open_slot) view ∙ ap (λ (z : ℕ). Some z) (sym at)) (ap (λ (z : Knows). z.spent) view ∙ c.pass.invariant.3) (subst (λ (z : Knows). MayFree z l) (sym view) record { has = may.has; rests = may.rests }) (frees_still key m.0 m1.0 l.number (Some slot) view stands)),
     )
 
 pub invariant_of-pass : goal.invariant_of-pass

@@ -4,6 +4,7 @@ use Rattle.tc_queue.specs.declared.words.Linked.{Linked}
 use Rattle.tc_queue.specs.Calls.{IsLink, next_call}
 use Rattle.tc_queue.specs.Asked.{next}
 use Rattle.tc_hall.specs.Lines.{IsAsked, MayStand}
+use Rattle.tc_hall.specs.Standing.{IfLined, StandsAs, loose}
 use Rattle.tc_hall.proofs.Words.{link_below}
 use Rattle.tc_hall.proofs.Lining.{asked_so, found_so, loads}
 use Rattle.tc_hall.proofs.hall.Hall.load_link.Goals as goal
@@ -15,6 +16,7 @@ load-word-requires g c =
     let own = ap (λ (p : PassView). p.table) c.pass.view_is ∙ (c.requires.own ∙ sym (ap (λ (h : HallView). h.table) c.self.view_is)) in
     let may : MayStand key c.args.lock c.args.own.now = subst (λ (h : HallView). MayStand h.terms c.args.lock c.args.own.now) (sym c.self.view_is) c.requires.may in
     let asked : IsAsked (threads key) c.args.lock (next c.args.own.now) g.J.Asking.threads g.J.Asking.lock g.J.Asking.ask = subst (λ (h : HallView). IsAsked (threads h.terms) c.args.lock (next c.args.own.now) g.J.Asking.threads g.J.Asking.lock g.J.Asking.ask) (sym c.self.view_is) c.requires.asked in
+    let stands : IfLined key seat.me.0 (StandsAs seat.me.0 c.args.lock (loose c.args.own.now)) = subst (λ (z : HallView × PassView). IfLined z.0.terms z.1.knows (StandsAs z.1.knows c.args.lock (loose c.args.own.now))) (λ q. (sym c.self.view_is q, sym c.pass.view_is q)) c.requires.stands in
     let at : c.link_of-place.result ≡ link_word_of key c.args.lock c.args.own.now.thread = c.link_of-place.ensures ∙ ap (λ (h : HallView). link_word_of h.terms c.args.lock c.args.own.now.thread) (sym c.self.view_is) in
     let few = c.self.invariant.0 in
     let most = c.self.invariant.8 in
@@ -23,7 +25,7 @@ load-word-requires g c =
       own,
       omega (arith, at, below, c.self.invariant.1),
       found_so key _ seat.id c.link_of-place.result seat.me (λ n. n) (threads key) c.args.lock (next c.args.own.now) _ _ _ asked
-          (loads key _ seat.id c.args.lock seat.me.0 seat.me.1 c.pass.invariant.0 c.pass.invariant.3 c.args.own.now _ may at),
+          (loads key _ seat.id c.args.lock seat.me.0 seat.me.1 c.pass.invariant.0 c.pass.invariant.3 c.args.own.now _ may stands at),
     )
 
 pub invariant_of-pass : goal.invariant_of-pass

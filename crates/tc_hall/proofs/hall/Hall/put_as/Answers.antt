@@ -2,7 +2,8 @@ use Rattle.std.proofs.Common.{◌≡◌, ◌<◌, ℕ, [], ◌∷◌, Option, So
 use Rattle.tc_hall.proofs.Vocabulary.{Gave, HallView, IsAsLeft, IsInRange, Knows, MayPut, Package, PassView, Sat, HallTerms, bare, locks, of_package, rest, slot_word, threads}
 use Rattle.tc_hall.proofs.Cases.{clash}
 use Rattle.tc_hall.proofs.Stepping.{Reaches, reaches, FillsAs, Fills, fills}
-use Rattle.tc_hall.proofs.Putting.{may_put_as, left_as, gave}
+use Rattle.tc_hall.specs.Standing.{IfLined, PutsAs}
+use Rattle.tc_hall.proofs.Putting.{may_put_as, puts_still, left_as, gave}
 use Rattle.tc_hall.proofs.Holding.{put_slot, put_found, put_carried, put_view}
 use Rattle.tc_hall.proofs.hall.Hall.put_as.Goals as goal
 
@@ -10,7 +11,7 @@ pub load-requires : goal.load-requires
 load-requires g c =
     let seat = c.pass.inside.seat in
     let own = ap (λ (p : PassView). p.table) c.pass.view_is ∙ (c.requires.own ∙ sym (ap (λ (h : HallView). h.table) c.self.view_is)) in
-    let below : c.args.«package».context.thread < threads c.self.inside.board.shared.key = subst (λ (h : HallView). c.args.«package».context.thread < threads h.terms) (sym c.self.view_is) c.requires.thread in
+    let below : c.args.«package».context.thread < threads c.self.inside.board.shared.key = subst (λ (h : HallView). c.args.«package».context.thread < threads h.terms) (sym c.self.view_is) c.requires.places.0 in
     let may : MayPut c.args.place seat.me.0 c.args.«package» = subst (λ (p : PassView). MayPut c.args.place p.knows c.args.«package») (sym c.pass.view_is) c.requires.ready in
     let t : c.thread-t.result ≡ c.args.«package».context.thread = c.thread-t.ensures in (
       own,
@@ -38,9 +39,10 @@ store-requires g c =
     let m1 = c.load.new.seat.me in
     let q = c.args.«package» in
     let did = c.load.ensures in
-    let below : q.context.thread < threads key = subst (λ (h : HallView). q.context.thread < threads h.terms) (sym c.self.view_is) c.requires.thread in
-    let range : IsInRange (locks key) c.args.place = subst (λ (h : HallView). IsInRange (locks h.terms) c.args.place) (sym c.self.view_is) c.requires.place in
+    let below : q.context.thread < threads key = subst (λ (h : HallView). q.context.thread < threads h.terms) (sym c.self.view_is) c.requires.places.0 in
+    let range : IsInRange (locks key) c.args.place = subst (λ (h : HallView). IsInRange (locks h.terms) c.args.place) (sym c.self.view_is) c.requires.places.1 in
     let may : MayPut c.args.place m.0 q = subst (λ (p : PassView). MayPut c.args.place p.knows q) (sym c.pass.view_is) c.requires.ready in
+    let stands : IfLined key m.0 (PutsAs m.0 q c.args.place) = subst (λ (z : HallView × PassView). IfLined z.0.terms z.1.knows (PutsAs z.1.knows q c.args.place)) (λ i. (sym c.self.view_is i, sym c.pass.view_is i)) c.requires.stands in
     let t : c.thread-t.result ≡ q.context.thread = c.thread-t.ensures in
     let got = did.2 c.thread-t.result c.word_of.ensures in
     let view = put_view c.thread-t.result (Package q) m c.load.new.seat.me c.pass.invariant.0 got in (
@@ -50,7 +52,7 @@ store-requires g c =
           (subst (λ (z : ℕ × ℕ). Fills key c.self.inside.board.shared.table_id.slots c.load.new.seat.id (slot_word z.0) z.1 m1.0 ((c.thread-t.result, c.replace.new.self) ∷ rest m1.1)) (λ i. (sym t i, sym c.code-code.ensures i))
           (fills key _ _ c.args.place m1.0 q _
           (put_carried c.thread-t.result (Package q) m c.load.new.seat.me c.pass.invariant.0 got c.replace.new.self c.replace.ensures.left ∙ ap (λ (z : ℕ). (z, Some (Package q)) ∷ []) t)
-          (ap (λ (z : Knows). z.open_slot) view ∙ ap (λ (z : ℕ). Some z) t) (ap (λ (z : Knows). z.spent) view ∙ c.pass.invariant.3) range (may_put_as c.args.place m.0 m1.0 q (Some c.thread-t.result) view may))),
+          (ap (λ (z : Knows). z.open_slot) view ∙ ap (λ (z : ℕ). Some z) t) (ap (λ (z : Knows). z.spent) view ∙ c.pass.invariant.3) range (may_put_as c.args.place m.0 m1.0 q (Some c.thread-t.result) view may) (puts_still key m.0 m1.0 q c.args.place (Some c.thread-t.result) view stands))),
     )
 
 pub invariant_of-pass : goal.invariant_of-pass

@@ -3,6 +3,7 @@ use Rattle.tc_hall.proofs.Vocabulary.{HallView, Line, PassView, Sat, link_word_o
 use Rattle.tc_queue.specs.declared.turn.QueueCall.TheVariants.{Link}
 use Rattle.tc_queue.specs.Asked.{link}
 use Rattle.tc_hall.specs.Lines.{IsAsked, MayLinkAt}
+use Rattle.tc_hall.specs.Standing.{IfLined, LinksAs}
 use Rattle.tc_hall.proofs.Words.{link_below}
 use Rattle.tc_hall.proofs.Lining.{asked_so, stored_so, stores}
 use Rattle.tc_hall.proofs.hall.Hall.store_link.Goals as goal
@@ -14,6 +15,7 @@ store-requires g c =
     let own = ap (λ (p : PassView). p.table) c.pass.view_is ∙ (c.requires.own ∙ sym (ap (λ (h : HallView). h.table) c.self.view_is)) in
     let may : MayLinkAt key seat.me.0 c.args.lock c.args.before.now c.args.own.now = subst (λ (z : HallView × PassView). MayLinkAt z.0.terms z.1.knows c.args.lock c.args.before.now c.args.own.now) (λ q. (sym c.self.view_is q, sym c.pass.view_is q)) c.requires.may in
     let asked : IsAsked (threads key) c.args.lock (link c.args.before.now c.args.own.now) g.J.Asking.threads g.J.Asking.lock g.J.Asking.ask = subst (λ (h : HallView). IsAsked (threads h.terms) c.args.lock (link c.args.before.now c.args.own.now) g.J.Asking.threads g.J.Asking.lock g.J.Asking.ask) (sym c.self.view_is) c.requires.asked in
+    let stands : IfLined key seat.me.0 (LinksAs seat.me.0 c.args.lock c.args.own.now) = subst (λ (z : HallView × PassView). IfLined z.0.terms z.1.knows (LinksAs z.1.knows c.args.lock c.args.own.now)) (λ q. (sym c.self.view_is q, sym c.pass.view_is q)) c.requires.stands in
     let at : c.link_of-place.result ≡ link_word_of key c.args.lock c.args.before.now.thread = c.link_of-place.ensures ∙ ap (λ (h : HallView). link_word_of h.terms c.args.lock c.args.before.now.thread) (sym c.self.view_is) in
     let few = c.self.invariant.0 in
     let most = c.self.invariant.8 in
@@ -22,7 +24,7 @@ store-requires g c =
       own,
       omega (arith, at, below, c.self.invariant.1),
       stored_so key _ seat.id c.link_of-place.result c.to_word.result seat.me (threads key) c.args.lock (link c.args.before.now c.args.own.now) _ _ _ asked
-          (stores key _ seat.id c.args.lock seat.me.0 seat.me.1 c.pass.invariant.0 c.pass.invariant.3 c.args.before.now c.args.own.now _ _ may at c.to_word.ensures),
+          (stores key _ seat.id c.args.lock seat.me.0 seat.me.1 c.pass.invariant.0 c.pass.invariant.3 c.args.before.now c.args.own.now _ _ may stands at c.to_word.ensures),
     )
 
 pub invariant_of-pass : goal.invariant_of-pass

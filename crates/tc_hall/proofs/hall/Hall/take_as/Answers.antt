@@ -1,5 +1,6 @@
 use Rattle.std.proofs.Common.{◌≡◌, ◌+◌, ◌<◌, ℕ, ◌∷◌, Option, Some, None, sym, ap, ◌∙◌, subst, arith}
 use Rattle.tc_hall.proofs.Vocabulary.{HallView, HasLock, IsStateAsLeft, Knows, Lock, LockView, PassView, HallTerms, kept, locks, of_lock, rest, slot_word, threads}
+use Rattle.tc_hall.specs.Standing.{IfLined, TakesAs}
 use Rattle.tc_hall.specs.Steps.{Takes}
 use Rattle.tc_hall.proofs.Stepping.{TakesAll, takes_lock, Lays, lays}
 use Rattle.tc_hall.proofs.Outs.{loose_out}
@@ -9,6 +10,7 @@ use Rattle.tc_hall.proofs.hall.Hall.take_as.Goals as goal
 pub compare_exchange-found-requires : goal.compare_exchange-found-requires
 compare_exchange-found-requires g c =
     let seat = c.pass.inside.seat in
+    let stands : IfLined c.self.inside.board.shared.key seat.me.0 (TakesAs seat.me.0 c.args.lock) = subst (λ (z : HallView × PassView). IfLined z.0.terms z.1.knows (TakesAs z.1.knows c.args.lock)) (λ i. (sym c.self.view_is i, sym c.pass.view_is i)) c.requires.stands in
     let key = c.self.inside.board.shared.key in
     let own = ap (λ (p : PassView). p.table) c.pass.view_is ∙ (c.requires.own ∙ sym (ap (λ (h : HallView). h.table) c.self.view_is)) in
     let below : c.args.lock < locks key = subst (λ (h : HallView). c.args.lock < locks h.terms) (sym c.self.view_is) c.requires.lock in
@@ -18,7 +20,7 @@ compare_exchange-found-requires g c =
       own,
       omega (arith, c.self.invariant.1, c.word_of-word.ensures),
       subst (λ (z : Option HallTerms × ℕ). TakesAll key z.0 c.self.inside.board.shared.table_id.slots seat.id z.1 seat.me.0 seat.me.1) (λ i. (sym (c.requires.picked ∙ ap (λ (h : HallView). Some h.terms) (sym c.self.view_is)) i, sym word i))
-          (takes_lock key _ seat.id c.args.lock seat.me.0 seat.me.1 c.pass.invariant.0 below c.pass.invariant.3 c.pass.invariant.1),
+          (takes_lock key _ seat.id c.args.lock seat.me.0 seat.me.1 c.pass.invariant.0 below c.pass.invariant.3 c.pass.invariant.1 stands),
     )
 
 pub slot_mut-requires : goal.slot_mut-requires

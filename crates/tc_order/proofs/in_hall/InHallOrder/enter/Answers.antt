@@ -1,4 +1,4 @@
-use Rattle.std.proofs.Common.{◌≡◌, ℕ, ◌∷◌, [], ◌++◌, sym, subst, ap, ◌∙◌}
+use Rattle.std.proofs.Common.{◌≡◌, refl, ℕ, ◌∷◌, [], ◌++◌, sym, subst, ap, ◌∙◌}
 use Rattle.tc_queue.specs.declared.turn.Entered.{Entered}
 use Rattle.tc_queue.specs.declared.turn.QueueCall.TheVariants.{Enter}
 use Rattle.tc_queue.specs.Words.{IsTurn}
@@ -7,6 +7,9 @@ use Rattle.tc_hall.specs.declared.board.Knows.{Knows}
 use Rattle.tc_hall.specs.Lines.{lines_of}
 use Rattle.tc_order.proofs.Lists.{lines_quiet, lines_more}
 use Rattle.tc_order.proofs.in_hall.InHallOrder.enter.Goals as goal
+
+pub enter-requires-clause-stands : goal.enter-requires-clause-stands
+enter-requires-clause-stands c = c.requires.stands c.args.self.now.lock refl
 
 pub returns-in-Behind-clause-may : goal.returns-in-Behind-clause-may
 returns-in-Behind-clause-may c p d longer quiet =

@@ -1,0 +1,14 @@
+pub mod Agree
+pub mod Queues
+pub mod Passes
+pub mod Hands
+pub mod Lifting
+pub mod After
+pub mod Slots
+pub mod Covers
+pub mod Committing
+pub mod Sealed
+pub mod Counting
+pub mod Moving
+pub mod Law
+pub mod End

@@ -1,0 +1,7 @@
+use Rattle.std.proofs.Common.{[], ap, inl}
+use Rattle.tc_hall.specs.declared.board.Knows.{Knows}
+use Rattle.tc_hall.proofs.Stops.{stop_told}
+use Rattle.tc_workers_tests.proofs.stops.keep.Goals as goal
+
+pub adopt-requires-clause-stands : goal.adopt-requires-clause-stands
+adopt-requires-clause-stands g c lined = inl (stop_told c.args.pass.now.knows c.stop.new.pass.knows [] (ap (λ (v : Knows). v.calls) c.stop.ensures.stop))
