@@ -4,6 +4,7 @@ use mathlib.Core.Logic.{dite}
 use native.Mathlib.Decide.{ℕ_discrete}
 use Rattle.tc_queue.specs.declared.turn.QueueCall.TheVariants.{Enter as Own_enter}
 use Rattle.tc_queue.specs.declared.turn.Entered.{Entered as OwnEntered}
+use Rattle.tc_queue.specs.declared.turn.Entered.TheVariants.{Behind as Own_behind, First as Own_first}
 use Rattle.tc_hall.specs.Standing.{EntersAs, IfLined, LinksAs, PutsAs, Standing, away, entered, granted, held, loose, followed, closed, is_of, kind_at, last_turn, past, past_line, past_put, past_take, stand_if, stand_in, standing_of, stands_in, turn_by, turns_of}
 use Rattle.tc_hall.specs.declared.board.PassCall.TheVariants.{Line}
 use Rattle.tc_hall.proofs.Standing.{put_in, shows_none}
@@ -14,9 +15,13 @@ use Rattle.std.specs.Option.{option_map}
 use Rattle.tc_context.specs.View.{IsNumbered, number_in, want_of, with_grant, with_turns}
 use Rattle.tc_context.specs.declared.package.Grant.{Grant}
 use Rattle.tc_hall.specs.Steps.{given_of}
-use Rattle.tc_combiner.proofs.Vocabulary.{DidGrant, Has, HallTerms, HasBlock, HasNoOther, HasNone, HasOnlyHeld, MAX_NUMBER, Outs, Owns, erase, is_running, next_lock, outs, thread_in, unless, Turn, bare, IsPlaced, Item, Kind, Knows, LockView, Loose, Pack, PackageView, PassCall, Place, Parked, Slept, Take, Taken, Waiting, has, last_of, locked_in, packed, put_call}
+use Rattle.tc_order.specs.Order.{Told, hall_notes}
+use Rattle.tc_combiner.proofs.Vocabulary.{Behind, DeskParts, DidGrant, Enter, Has, HallTerms, HallView, HasBlock, HasNoOther, HasNone, HasOnlyHeld, IsAtHall, MAX_NUMBER, MayAsk}
+use Rattle.tc_combiner.proofs.Vocabulary.{Outs, Owns, erase, is_running, next_lock, outs, thread_in, unless, Turn, bare, IsPlaced, Item, Kind, Knows, LockView, Loose, Pack, PackageView, PassCall, PassView, Place, Parked, Slept, Take, Taken, Waiting, has, last_of, locked_in, packed, put_call}
 use Rattle.tc_combiner.specs.Stances.{CountsTurns, EnteredAs, KnowsLines, SameStances, StandsPast, beside, but_at, shows_at}
-use Rattle.tc_combiner.proofs.Stances.{past_called}
+use Rattle.tc_combiner.proofs.Stances.{behind_past, past_called}
+use Rattle.tc_combiner.proofs.Acquiring.{still_asks}
+use Rattle.tc_combiner.proofs.Packages.{no_other}
 
 -- ---- what is in hand shows
 
@@ -187,32 +192,63 @@ wants_absent q i wants only = none_of (locked_in q i) (λ l e.
 
 -- ---- a turn that entered behind another: its package is put
 
-pub if_lined : (k : HallTerms) (v : Knows) (xs : List Item) → (k.lined ≡ true → KnowsLines k v xs) → KnowsLines k v xs
-if_lined k v xs f = record { stands = λ lined i. (f lined).stands lined i; turns = λ lined. (f lined).turns lined }
+-- the package p, whose turn has entered the line of lock i behind another, has no other's lock and not that one
+pub record IsBehind (k : HallTerms) (v : Knows) (i : ℕ) (p : PackageView) (a : Option PackageView) : Type 0 where
+  pub free : (c : PackageView) → a ≡ Some c → HasNone c
+  pub absent : locked_in p i ≡ None
+  pub own : HasNoOther p
+  pub in_line : k.lined ≡ true → (b : Turn) × EnteredAs k v i (last_turn p) (Some b) (Pack p ∷ packed a)
 
-module _ (k : HallTerms) (v : Knows) (i : ℕ) (b : Turn) (p : PackageView) (a : Option PackageView) (free : (c : PackageView) → a ≡ Some c → HasNone c) (absent : locked_in p i ≡ None) (own : HasNoOther p) (in_line : EnteredAs k v i (last_turn p) (Some b) (Pack p ∷ packed a)) where
-  stands_else : k.lined ≡ true → (j : ℕ) → j ≢ i → standing_of j v.calls ≡ stand_in p j
-  stands_else lined j ne = in_line.stands lined j ∙ (but_else i j (entered (last_turn p) (Some b)) (shows_at (Pack p ∷ packed a)) ne ∙ hand_shows p a free j)
+module _ (hall : HallView) (i : ℕ) (u : Turn) (q p : PackageView) (h : DeskParts) (w : PassView) (thread : u.thread ≡ p.context.thread) (rest : p ≡ with_turns u.number q) (at : IsAtHall hall (Pack q ∷ packed h.aside) h) (lines : KnowsLines hall.terms h.pass.knows (Pack q ∷ packed h.aside)) where
+  own_thread : u.thread ≡ q.context.thread
+  own_thread = thread ∙ ap (λ (x : PackageView). x.context.thread) rest
 
-  stands_here : k.lined ≡ true → (j : ℕ) → j ≡ i → standing_of j v.calls ≡ entered (last_turn p) (Some b)
-  stands_here lined j e = in_line.stands lined j ∙ but_here i j (entered (last_turn p) (Some b)) (shows_at (Pack p ∷ packed a)) e
+  own_apart : (d : PackageView) → h.aside ≡ Some d → d.context.thread ≢ u.thread
+  own_apart d e same = aside_apart h.pass.knows q d at.out.0 (subst (λ (o : Option PackageView). Owns at.out.0 (outs h.pass.knows) (Pack q ∷ packed o)) e at.out.1) (same ∙ own_thread)
 
-  pub ships_as : k.lined ≡ true → PutsAs v p (Waiting i)
-  ships_as lined = record {
-    locks = λ j l e. stands_else lined j (λ same. let f : locked_in p i ≡ Some l = subst (λ (x : ℕ). locked_in p x ≡ Some l) same e in let n : ⊥ = cc (absent, f) in n);
+  counted_as : (before : Option Turn) (e : OwnEntered) → ((s : Standing) → past_line (Own_enter u e) s ≡ entered u before) → StandsPast (Line i (Own_enter u e)) hall.terms h.pass.knows w.knows → EnteredAs hall.terms w.knows i (turn_by q.context.thread u.number) before (Pack (with_turns u.number q) ∷ packed h.aside)
+  counted_as before e is did = subst (λ (t : ℕ). EnteredAs hall.terms w.knows i (turn_by t u.number) before (Pack (with_turns u.number q) ∷ packed h.aside)) own_thread
+      (entered_as hall.terms h.pass.knows i u q h.aside (λ d e. (at.aside d e).free) own_thread lines w.knows before e is did own_apart)
+
+  -- its queue was told that it is the first
+  pub is_first : StandsPast (Line i (Own_enter u Own_first)) hall.terms h.pass.knows w.knows → EnteredAs hall.terms w.knows i (turn_by p.context.thread u.number) None (Pack p ∷ packed h.aside)
+  is_first did = subst (λ (x : PackageView). EnteredAs hall.terms w.knows i (turn_by x.context.thread u.number) None (Pack x ∷ packed h.aside)) (sym rest) (counted_as None Own_first (λ s. refl) did)
+
+  -- or that it is behind another
+  pub is_behind : MayAsk hall.terms i q → (mark : ℕ) (noted : List PassCall → Type 0) → Told noted h.pass w → ((cs : List PassCall) → hall.terms.lined ≡ true → noted cs → hall_notes i (Enter u (Behind mark)) cs) → IsBehind hall.terms w.knows i p h.aside
+  is_behind may mark noted t law =
+      let still = still_asks hall.terms i q p u.number rest may in record {
+        free = λ d e. (at.aside d e).free;
+        absent = wants_absent p i still.want still.plain.locks;
+        own = no_other p still.plain.locks;
+        in_line = λ lined.
+            let did = behind_past hall.terms i u mark noted h.pass w t (law t.calls lined t.notes) in
+            (did.0, subst (λ (x : PackageView). EnteredAs hall.terms w.knows i (last_turn x) (Some did.0) (Pack x ∷ packed h.aside)) (sym rest) (counted_as (Some did.0) (Own_behind did.0) (λ s. refl) did.1));
+      }
+
+module _ (k : HallTerms) (v : Knows) (i : ℕ) (p : PackageView) (a : Option PackageView) (is : IsBehind k v i p a) where
+  stands_else : (lined : k.lined ≡ true) (j : ℕ) → j ≢ i → standing_of j v.calls ≡ stand_in p j
+  stands_else lined j ne = (is.in_line lined).1.stands lined j ∙ (but_else i j (entered (last_turn p) (Some (is.in_line lined).0)) (shows_at (Pack p ∷ packed a)) ne ∙ hand_shows p a is.free j)
+
+  stands_here : (lined : k.lined ≡ true) (j : ℕ) → j ≡ i → standing_of j v.calls ≡ entered (last_turn p) (Some (is.in_line lined).0)
+  stands_here lined j e = (is.in_line lined).1.stands lined j ∙ but_here i j (entered (last_turn p) (Some (is.in_line lined).0)) (shows_at (Pack p ∷ packed a)) e
+
+  pub ships_as : IfLined k v (PutsAs v p (Waiting i))
+  ships_as lined = inr (record {
+    locks = λ j l e. stands_else lined j (λ same. let f : locked_in p i ≡ Some l = subst (λ (x : ℕ). locked_in p x ≡ Some l) same e in let g = is.absent in let n : ⊥ = cc (g, f) in n);
     others = λ j none other. ap (is_of p.context.thread) (stands_else lined j (λ same. other (ap Waiting (sym same))) ∙ shows_none p j none);
-    waits = λ j e. (b, stands_here lined j (let same : i ≡ j = cc e in sym same));
+    waits = λ j e. ((is.in_line lined).0, stands_here lined j (let same : i ≡ j = cc e in sym same));
     slept = λ e. let n : ⊥ = cc e in absurd n;
-    turns = (in_line.turns lined).0;
-  }
+    turns = ((is.in_line lined).1.turns lined).0;
+  })
 
   pub ship_lines : (w : Knows) → w.calls ≡ v.calls ++ put_call p (Waiting i) ∷ [] → KnowsLines k w (packed a)
   ship_lines w told =
       let called = past_called (put_call p (Waiting i)) k v w told in record {
         stands = λ lined j. called.stands lined j ∙ (dite (ℕ_discrete j i)
-            (λ (e : j ≡ i). ap (past_put p.context.thread) (stands_here lined j e) ∙ ap (λ (x : Bool). if x then away else entered (last_turn p) (Some b)) (eq_self p.context.thread))
-            (λ (ne : j ≢ i). ap (past_put p.context.thread) (stands_else lined j ne) ∙ put_away p (Waiting i) j own) ∙ sym (aside_away a free j));
-        turns = λ lined. counts_still v.calls w.calls (packed a) (λ t. called.turns lined t) (in_line.turns lined).1;
+            (λ (e : j ≡ i). ap (past_put p.context.thread) (stands_here lined j e) ∙ ap (λ (x : Bool). if x then away else entered (last_turn p) (Some (is.in_line lined).0)) (eq_self p.context.thread))
+            (λ (ne : j ≢ i). ap (past_put p.context.thread) (stands_else lined j ne) ∙ put_away p (Waiting i) j is.own) ∙ sym (aside_away a is.free j));
+        turns = λ lined. counts_still v.calls w.calls (packed a) (λ t. called.turns lined t) ((is.in_line lined).1.turns lined).1;
       }
 
 pub same_lines : (k : HallTerms) (v w : Knows) (xs : List Item) → SameStances k v w → KnowsLines k v xs → KnowsLines k w xs

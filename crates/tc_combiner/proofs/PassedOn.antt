@@ -1,8 +1,8 @@
 -- What became of a released lock, from its parts.
 use Rattle.std.proofs.Common.{⊎_elim, length-append, ◌&&◌, ◌≡◌, ◌<◌, ◌≤◌, ◌+◌, ℕ, true, false, List, [], ◌∷◌, ◌++◌, length, refl, sym, ap, ◌∙◌, subst, Some, ◌≢◌, Bool, not, ◌==◌, if◌then◌else◌, arith, Option, None}
-use Rattle.tc_combiner.proofs.Vocabulary.{Acts, Adopted, All-cons, All-nil, Asks, Block, PassCall, Change, DeskStep, DidGrant, DidGrantNext, DidPass, DidTakeOut, End, FollowedAs, Free, GaveUp, Granted, HallView, GrantedAs, DeskParts, IsAt, IsAtRest, IsLeft, IsNumber, IsReleased, IsSoundPackage, IsTaken, IsTurn, IsWaiter, Item, Kind, Knows}
+use Rattle.tc_combiner.proofs.Vocabulary.{Acts, Adopted, All-cons, All-nil, Asks, Block, PassCall, Change, DeskStep, DidGrant, DidGrantNext, DidPass, DidTakeOut, End, FollowedAs, Free, GaveUp, Granted, HallView, GrantedAs, DeskParts, IsAt, IsAtRest, IsLeft, IsNumber, IsPlaced, IsReleased, IsSoundPackage, IsTaken, IsTurn, IsWaiter, Item, Kind, Knows}
 use Rattle.tc_combiner.proofs.Vocabulary.{LeftAs, LockView, LooksAfterFirst, LooksEachTime, Loose, MayAct, MayBringHome, MayGive, MayGrantNext, MayPassTo, MayRelease, Moves, Next, Outs, Owned, Owns, Pack, PackageView, PassView, Passed, Ready, Releases, EndsSection, SeatTells, SeatView, Shown, Shows, Takes, HallTerms, Turn, Unlocked, Was_adopted, Was_granted, Was_stopped, Went_home, adopts}
-use Rattle.tc_combiner.proofs.Vocabulary.{and_parts, bare, blocks_of, by_parts, change, ends_section, ends_thread, granted_lock, grants_adopted, adopted_in, has, is_only, is_passed, last_of, locked_in, locks, may_adopt, nat_tests, one_seat, outs, passes_to, put_call, ready_in, run_of, saw, threads, turn_of, unless, unlocks, was_cut}
+use Rattle.tc_combiner.proofs.Vocabulary.{and_parts, bare, blocks_of, by_parts, change, ends_section, ends_thread, granted_lock, grants_adopted, adopted_in, has, is_only, is_passed, last_of, locked_in, locks, may_adopt, nat_tests, one_seat, outs, passes_to, put_call, ready_in, run_of, saw, threads, turn_of, unless, unlocks, was_cut, without_lock}
 use Rattle.tc_context.specs.View.{IsAt as IsKeptAt}
 use Rattle.std.proofs.lemmas.Bool.{and_right}
 use Rattle.tc_nested.proofs.Allowing.{adopted, granted}
@@ -52,6 +52,21 @@ block_thread q b s e = (left_after q.image q b s.left e).thread
 -- a lock that the last block released is not held
 pub released_free : (q : PackageView) (b : Block) (i : ℕ) → IsSoundPackage q → last_of q.log ≡ Some b → Releases i b → has q.context.guest.held i ≡ false
 released_free q b i s e r = (left_after q.image q b s.left e).held i ∙ and_right (has b.held i) (not (ends_section i b)) (ap not r.1)
+
+-- the lock l, which the block b of the package q released, was taken out of it
+pub record TookReleased (i : ℕ) (b : Block) (l : LockView) (q p : PackageView) : Type 0 where
+  pub out : DidTakeOut i l q p
+  pub held : has q.context.guest.held i ≡ false
+  pub none : q.granted ≡ None
+  pub thread : b.thread ≡ q.context.thread
+
+pub took_released : (k : HallTerms) (v : Knows) (i : ℕ) (b : Block) (l : LockView) (q p : PackageView) → IsSoundPackage q → MayRelease k v i b q → locked_in q i ≡ Some l → p ≡ without_lock i q → IsPlaced i None q.context.locks p.context.locks → IsAtRest q.image i l → TookReleased i b l q p
+took_released k v i b l q p s may was is placed rest = record {
+  out = record { was = was; is = is; locks = placed; rest = rest };
+  held = released_free q b i s may.last may.released;
+  none = may.granted;
+  thread = block_thread q b s may.last;
+}
 
 -- the lock that was taken out is as the last block left it
 pub is_released : (k : HallTerms) (v w : Knows) (i : ℕ) (b : Block) (l : LockView) (q : PackageView) → IsSoundPackage q → MayRelease k v i b q → w.image ≡ v.image → w.worker ≡ v.worker → locked_in q i ≡ Some l → IsAtRest q.image i l → IsReleased k w b l

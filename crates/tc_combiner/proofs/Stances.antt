@@ -74,13 +74,6 @@ module _ (k : HallTerms) (u v w : Knows) where
     turns = λ lined t. b.turns lined t ∙ ap (turns_past t c) (a.turns lined t);
   }
 
-  pub past_same : (c : PassCall) → StandsPast c k u v → SameStances k v w → StandsPast c k u w
-  past_same c a b = record {
-    stop = λ h. b.stop (a.stop h);
-    stands = λ lined i. b.stands lined i ∙ a.stands lined i;
-    turns = λ lined t. b.turns lined t ∙ a.turns lined t;
-  }
-
 -- ---- what a call asks is asked as before
 
 module _ (k : HallTerms) (v w : Knows) (same : SameStances k v w) where

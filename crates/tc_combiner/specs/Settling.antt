@@ -14,7 +14,7 @@ use Rattle.tc_combiner.specs.View.{BenchView, DeskView, FitsBench, seat_at}
 abbrev pub IsInHand : DeskView → PackageView → Type 0
 IsInHand d q = Owned d.pass.knows (Pack q ∷ packed d.aside)
 
--- the same of the parts of a desk, whose pass stands at the lines as the two show
+-- the same of the parts of a desk, whose pass stands at the lines as the package and the one that is set aside show
 pub record HasInHand (hall : HallView) (q : PackageView) (h : DeskParts) : Type 0 where
   pub at : IsAtHall hall (Pack q ∷ packed h.aside) h
   pub lines : KnowsLines hall.terms h.pass.knows (Pack q ∷ packed h.aside)

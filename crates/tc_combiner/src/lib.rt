@@ -33,6 +33,15 @@
 //!   of the hall that several of these make. `tie`: the simulation of waiting queues.
 //! - `settled`, `passed`, `found`, `attempt`, `ready`: what became of a package, of a lock, who is
 //!   behind, the result of one try, and which threads were made ready.
+//!
+//! The files of proofs/, by what they prove:
+//!
+//! - The calls of a desk: `Acting` (calls one after another), `Looking` and `Telling` (stops),
+//!   `Owning` (what is out), `Packages`, `Seats`, `Fitting` (a desk still fits its bench).
+//! - How its pass stands at the lines: `Stances` (calls), `Lining` (packages in hand), `Releasing` (a
+//!   released lock), `Leaving` (a thread's end), `Sealing` (`commit`).
+//! - What its calls answer: `Acquiring`, `PassedOn`, `Unlocking`, `Ending`, `Settling`, `Answering`.
+//! - `Ties` and `Tails`, the laws of `tie`; `Vocabulary`, the shared definitions.
 #![tactic(auto)]
 
 mod acquire;

@@ -237,8 +237,3 @@ granted_else q l kind n i none ne =
     let new : kind_at i (given_of r) ≡ None = ap (λ (b : Bool). if b then Some kind else None) (ne_eqb l.number i (λ e. ne (sym e))) in
     let old : kind_at i (given_of q) ≡ None = ap (λ (o : Option Grant). kind_at i (option_map (λ (g : Grant). record { lock = g.lock; kind = g.kind; number = number_in q g.lock }) o)) none in
     λ j. stand_if (lock j) (stands_in (turn_by q.context.thread (number j)) (has q.context.guest.held i) ((new ∙ sym old) j))
-
-pub granted_in : (q : PackageView) (l : LockView) (kind : Kind) (n i : ℕ) → q.granted ≡ None → l.number < length q.context.locks → l.number < length q.numbers → stand_in (with_grant l kind n q) i ≡ (if i == l.number then granted (turn_by q.context.thread n) kind else stand_in q i)
-granted_in q l kind n i none room places = dite (ℕ_discrete i l.number)
-    (λ (e : i ≡ l.number). granted_here q l kind n i room places e ∙ sym (ap (λ (b : Bool). if b then granted (turn_by q.context.thread n) kind else stand_in q i) (eq-eqb i l.number e)))
-    (λ (ne : i ≢ l.number). granted_else q l kind n i none ne ∙ sym (ap (λ (b : Bool). if b then granted (turn_by q.context.thread n) kind else stand_in q i) (ne_eqb i l.number ne)))

@@ -224,7 +224,7 @@ pub record EntersAs (v : Knows) (i : ℕ) (u : Turn) : Type 0 where
   pub wants : want_of waiter.image waiter.context ≡ Some i
   pub number : u.number ≡ min (turns_of u.thread v.calls + 1) MAX_NUMBER
 
--- the turn may be linked in the line of lock i: its package was put
+-- the turn may be linked in the line of lock i: it does not stand as entered, so that a package that entered was put
 abbrev pub LinksAs : Knows → ℕ → Turn → Type 0
 LinksAs v i u = (before : Option Turn) → standing_of i v.calls ≢ entered u before
 

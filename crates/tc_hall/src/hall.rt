@@ -1,4 +1,5 @@
-//! Halls and their calls.
+//! Halls and their calls. In a hall with lines each asks, unless its pass knows of a stop, how the pass
+//! stands at the line of the lock (`specs/Standing.antt`).
 
 ghost use Rattle.std.specs.Prelude.{◌≡◌, ◌≢◌, ◌<◌, ◌≤◌, ◌+◌, ◌*◌, if◌then◌else◌, true, false};
 ghost use Rattle.std.specs.Prelude.{length, MatchResult, IfOk, Some};
@@ -244,7 +245,8 @@ impl Hall {
     }
 
     /// Joins another pass of the hall into this one and ends it: its blocks and calls follow those
-    /// of this pass, and its worker number counts as joined.
+    /// of this pass, and its worker number counts as joined. In a hall with lines neither has anything
+    /// out.
     pub fn join(&self, pass: &mut Pass, other: Pass)
         requires own { (pass.old.table ≡ self.now.table) × (other.table ≡ self.now.table) }
         requires free { IsFree other.knows }

@@ -4,7 +4,7 @@
 //! and those of the hall have one order, and a pass's list has both. Apart: any order of waiters of
 //! tc_queue, which has a table of its own, and of which a pass knows nothing.
 //!
-//! - `order`: the trait. `in_hall`: the line of a lock in a hall with lines. `apart`: any order of
+//! - `specs/Order.antt`: what a call says of the pass beside it. `order`: the trait. `in_hall`: the line of a lock in a hall with lines. `apart`: any order of
 //!   waiters.
 #![tactic(auto)]
 

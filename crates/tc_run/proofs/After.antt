@@ -36,7 +36,7 @@ use Rattle.atomic_table.proofs.Lists.{at_set}
 use Rattle.tc_hall.specs.Effects.{Hall}
 use Rattle.tc_hall.specs.Rule.{HasLock}
 use Rattle.tc_hall.specs.Steps.{dealt, fresh, gone, merged}
-use Rattle.tc_run.specs.Run.{beats_of, claim_events, core_in, entered_by, events_at, events_in, line_beats, line_past, put_event, take_events, turns_past, waits_at, without_first}
+use Rattle.tc_run.specs.Run.{beats_of, claim_events, core_in, entered_by, events_at, events_in, line_beats, line_past, put_event, take_events, queue_past, waits_at, without_first}
 use Rattle.tc_core.proofs.Parts.{on_line}
 use Rattle.tc_core.proofs.Quiet.{pick_mine}
 use Rattle.tc_hall.proofs.Through.{after_more}
@@ -158,7 +158,7 @@ custody_else k c v (join other w) i seals e = refl
 
 pub line_else : (o : Operation) (i : ℕ) (us : List Turn) → ((IsCommit o → ⊥) → concerns i o ≡ false) → line_past i o us ≡ us
 line_else (claim t word q) i us e = if_not (waits_at i (place_of word)) (without_first us) us (e (λ s. let f = s.3 in let n : ⊥ = cc f in n))
-line_else (line j c) i us e = if_not (j == i) (turns_past c us) us (e (λ s. let f = s.3 in let n : ⊥ = cc f in n))
+line_else (line j c) i us e = if_not (j == i) (queue_past c us) us (e (λ s. let f = s.3 in let n : ⊥ = cc f in n))
 line_else (take j l) i us e = refl
 line_else (commit stamp b q) i us e = refl
 line_else (put q place) i us e = refl

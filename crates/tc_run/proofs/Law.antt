@@ -41,7 +41,7 @@ use Rattle.tc_hall.proofs.Making.{clean_free}
 use Rattle.tc_hall.proofs.Telling.{place_codes}
 use Rattle.atomic_table.specs.Table.{opening}
 use Rattle.atomic_table.proofs.Lists.{at_longer, at_map}
-use Rattle.tc_run.specs.Run.{AreFirst, RunsAsMachine, before_stop, beats_of, entered_in, events_at, events_in, given_in, has_stop, is_stop, line_beats, line_past, turns_past}
+use Rattle.tc_run.specs.Run.{AreFirst, RunsAsMachine, before_stop, beats_of, entered_in, events_at, events_in, given_in, has_stop, is_stop, line_beats, line_past, queue_past}
 use Rattle.tc_run.proofs.Agree.{Agrees, HasCome, InSlot, IsIn, IsServed, IsWrittenSo, Live, Run, StandsTrue, Step, core_at, custody_at, first_in, given_first, hall_at, line_at, none_more, then_run, written_at}
 use Rattle.tc_run.proofs.Hands.{before_legal, before_none, lifted_at, no_first, shown_at}
 use Rattle.tc_run.proofs.Lifting.{lifts_on}
@@ -162,7 +162,7 @@ module _ (k : HallTerms) (r : Run k) (a : Agrees k r) (m : Step k r) where
   slots_on o is back t q h = back t q (ap (λ (p : Operation). get_elem? (after_operation k (hall_at k r) m.made.pass m.made.knew p).homes t) (sym is) ∙ h)
 
   -- a call that is not of the standing
-  called_covered : (i : ℕ) (c : QueueCall) → Is (line i c) → events_by (line i c) ≡ events_in k r.order ++ [] → ((us : List Turn) → turns_past c us ≡ us)
+  called_covered : (i : ℕ) (c : QueueCall) → Is (line i c) → events_by (line i c) ≡ events_in k r.order ++ [] → ((us : List Turn) → queue_past c us ≡ us)
       → ((j : ℕ) (u : Turn) (before : Option Turn) → past j (Line i c) (entered u before) ≡ entered u before) → Moves.Covered k r a m
   called_covered i c is none lines stays =
       let still = still_on (line i c) is none (λ j. ap (λ (us : List Turn). if i == j then us else line_at k r j) (lines (line_at k r j)) ∙ either (i == j) (line_at k r j)) in

@@ -62,7 +62,7 @@ use Rattle.tc_run.proofs.Committing as commits
 use Rattle.tc_run.proofs.Counting.{counted_after}
 use Rattle.tc_run.proofs.Sealed.{sealed_none, written_so}
 use Rattle.tc_run.specs.Run.{sealed_by, sealed_in}
-use Rattle.tc_run.specs.Run.{entered_by, entered_in, entry_of, given_by, given_in, given_to, turns_past, without_first, claim_events, last_turn_of, line_past, take_events, threads_of, waits_at}
+use Rattle.tc_run.specs.Run.{entered_by, entered_in, given_by, given_in, given_to, queue_past, without_first, claim_events, last_turn_of, line_past, take_events, threads_of, waits_at}
 use Rattle.tc_run.proofs.After.{concerns, core_then, block_line, custody_else, lock_else, lock_gone, view_own, enter_custody, entered_none, free_line, plain_else, take_line, free_custody, history_of_claim, history_of_put, either}
 use Rattle.tc_run.proofs.After.{history_of_take, other_view, if_not, leave_custody, line_else, next_by_block, next_of_block, next_of_claim, next_of_put, next_of_take, pass_custody, steps_of, take_custody, written_then, IsCommit}
 use Rattle.tc_journal.specs.Batch.{last_of}
@@ -150,20 +150,7 @@ given_else i v split e = refl
 given_else i v (join other w) e = refl
 
 entered_else : (i : ℕ) (o : Operation) → concerns i o ≡ false → entered_by i o ≡ []
-entered_else i (line j c) e = if_not (j == i) (entry_of c) [] e
-entered_else i (claim t word q) e = refl
-entered_else i (take j l) e = refl
-entered_else i (commit stamp b q) e = refl
-entered_else i (put q place) e = refl
-entered_else i (free l) e = refl
-entered_else i (miss word wanted found) e = refl
-entered_else i (look t found) e = refl
-entered_else i stop e = refl
-entered_else i (stopped found) e = refl
-entered_else i (reach slot) e = refl
-entered_else i (lay slot) e = refl
-entered_else i split e = refl
-entered_else i (join other w) e = refl
+entered_else i o e = entered_none i o (λ u x is. absurd (cc (sym (ap (concerns i) is ∙ eq-eqb i i refl) ∙ e)))
 
 module _ (k : HallTerms) (r : Run k) (a : Agrees k r) (m : Step k r) where
   abbrev r' : Run k
@@ -254,30 +241,44 @@ module _ (k : HallTerms) (r : Run k) (a : Agrees k r) (m : Step k r) where
       × (((written_at k r').next q.context.thread).kind ≡ On)
   commit_core stamp i b q is = (_, _, commits.custody_is k r a m stamp b q is i, ap (λ (w : Written). (w.next q.context.thread).kind) (written_by _ (is_steps (commit stamp b q) is)) ∙ next_by_block k.image.value (written_at k r) v.worker q.context.thread b.turns)
 
+  abbrev HasWritten : ((ℕ → Beginning) → List Block → Type 0) → Operation → Type 0
+  HasWritten P o = (let w = write_all k.image.value (written_at k r) (steps_of k (core_at k r) v o) in P w.next w.history)
+
+  -- what is so of the blocks written before and of the next ones, and of what these four operations write, is so after any operation
+  after_any : (P : (ℕ → Beginning) → List Block → Type 0) → P (written_at k r).next (written_at k r).history
+      → ((u word : ℕ) (q : PackageView) → Is (claim u word q) → HasWritten P (claim u word q)) → ((i : ℕ) (l : LockView) → Is (take i l) → HasWritten P (take i l))
+      → ((stamp : ℕ) (b : Block) (q : PackageView) → Is (commit stamp b q) → HasWritten P (commit stamp b q)) → ((q : PackageView) (place : Place) → Is (put q place) → HasWritten P (put q place))
+      → P (written_at k r').next (written_at k r').history
+  after_any P before claims takes commits puts = subst (λ (w : Written). P w.next w.history) (sym (written_by _ refl)) (by m.made.operation refl)
+    where
+      by : (o : Operation) → Is o → HasWritten P o
+      by (claim u word q) is = claims u word q is
+      by (take i l) is = takes i l is
+      by (commit stamp b q) is = commits stamp b q is
+      by (put q place) is = puts q place is
+      by (line j (Did_leave u Left)) is = before
+      by (line j (Did_leave u (Followed tail))) is = before
+      by (line j (Did_enter u a)) is = before
+      by (line j (Did_link b u)) is = before
+      by (line j (Did_ask u x)) is = before
+      by (free l) is = before
+      by (miss word wanted found) is = before
+      by (look u found) is = before
+      by stop is = before
+      by (stopped found) is = before
+      by (reach slot) is = before
+      by (lay slot) is = before
+      by split is = before
+      by (join other w) is = before
+
   -- of a thread that it gives no lock, and seals no block of
   pub next_still : (t : ℕ) → ((i : ℕ) (l : LockView) (u : Turn) → Is (take i l) → StandsAs v i (entered u None) → u.thread ≢ t) → ((u word i : ℕ) (q : PackageView) → Is (claim u word q) → place_of word ≡ Waiting i → u ≢ t) → ((stamp : ℕ) (b : Block) (q : PackageView) → Is (commit stamp b q) → q.context.thread ≢ t)
       → (written_at k r').next t ≡ (written_at k r).next t
-  next_still t untaken unpassed unsealed = ap (λ (w : Written). w.next t) (written_by _ refl) ∙ by m.made.operation refl
-    where
-      by : (o : Operation) → Is o → (write_all k.image.value (written_at k r) (steps_of k (core_at k r) v o)).next t ≡ (written_at k r).next t
-      by (claim u word q) is = next_of_claim k (core_at k r) (written_at k r) v.worker u t (place_of word) (λ i e. unpassed u word i q is e)
-      by (take i l) is = next_of_take k.image.value (written_at k r) v.worker t i _ (λ u e. untaken i l u is e)
-      by (commit stamp b q) is = next_of_block k.image.value (written_at k r) v.worker q.context.thread t b.turns (unsealed stamp b q is)
-      by (put q place) is = ap (λ (f : ℕ → Beginning). f t) (next_of_put k.image.value (written_at k r) v.worker q.context.thread place)
-      by (line j (Did_leave u Left)) is = refl
-      by (line j (Did_leave u (Followed tail))) is = refl
-      by (line j (Did_enter u a)) is = refl
-      by (line j (Did_link b u)) is = refl
-      by (line j (Did_ask u x)) is = refl
-      by (free l) is = refl
-      by (miss word wanted found) is = refl
-      by (look u found) is = refl
-      by stop is = refl
-      by (stopped found) is = refl
-      by (reach slot) is = refl
-      by (lay slot) is = refl
-      by split is = refl
-      by (join other w) is = refl
+  next_still t untaken unpassed unsealed = after_any (λ next h. next t ≡ (written_at k r).next t) refl
+      (λ u word q is. next_of_claim k (core_at k r) (written_at k r) v.worker u t (place_of word) (λ i e. unpassed u word i q is e))
+      (λ i l is. next_of_take k.image.value (written_at k r) v.worker t i _ (λ u e. untaken i l u is e))
+      (λ stamp b q is. next_of_block k.image.value (written_at k r) v.worker q.context.thread t b.turns (unsealed stamp b q is))
+      (λ q place is. ap (λ (f : ℕ → Beginning). f t) (next_of_put k.image.value (written_at k r) v.worker q.context.thread place))
 
   -- ---- lines
 
@@ -333,11 +334,11 @@ module _ (k : HallTerms) (r : Run k) (a : Agrees k r) (m : Step k r) where
   tail_found : (i : ℕ) → i < locks k → (plain_at k i (hall_at k r).words).tail ≡ last_turn_of (line_at k r i)
   tail_found i below = (line_shown k r i below).tail ∙ (a.lines i below).tail
 
-  lines_quiet : (i : ℕ) (c : QueueCall) → Is (line i c) → i < locks k → ((u : Turn) (e : Entered) → c ≢ Did_enter u e) → (custody_at k r' i).line ≡ (custody_at k r i).line → plain_after (plain_of i r.order) c ≡ plain_of i r.order → turns_past c (line_at k r i) ≡ line_at k r i → IsLine k r' i
+  lines_quiet : (i : ℕ) (c : QueueCall) → Is (line i c) → i < locks k → ((u : Turn) (e : Entered) → c ≢ Did_enter u e) → (custody_at k r' i).line ≡ (custody_at k r i).line → plain_after (plain_of i r.order) c ≡ plain_of i r.order → queue_past c (line_at k r i) ≡ line_at k r i → IsLine k r' i
   lines_quiet i c is below never same plain turns = (let o = a.lines i below in kept_line i (plain_of i r.order) (line_at k r i) below record {
     none = not_enter i (line i c) is (λ u e f. never u e (let g : c ≡ Did_enter u e = cc f in g));
     plain = plain_by i (line i c) is ∙ (pick_mine i (plain_after (plain_of i r.order) c) (plain_of i r.order) ∙ plain);
-    turns = line_by i (line i c) is ∙ (pick_mine i (turns_past c (line_at k r i)) (line_at k r i) ∙ turns);
+    turns = line_by i (line i c) is ∙ (pick_mine i (queue_past c (line_at k r i)) (line_at k r i) ∙ turns);
     line = same ∙ o.line;
     tail = o.tail;
     links = o.links;
@@ -620,7 +621,7 @@ module _ (k : HallTerms) (r : Run k) (a : Agrees k r) (m : Step k r) where
   own_quiet : (c : PassCall) → IsStill → (j : ℕ) → j < locks k → past j c (stood j) ≡ stood j → StandsTrue k r' (with_call v c) j
   own_quiet c same j below is = own_call j c (stood j) below is (so_still same.0 same.1 j v.worker (stood j) below (a.passes m.made.pass j v live below).so) refl (a.passes m.made.pass j v live below).hand
 
-  line_still : (i : ℕ) (c : QueueCall) → Is (line i c) → steps_of k (core_at k r) v (line i c) ≡ [] → turns_past c ≡ (λ (us : List Turn). us) → IsStill
+  line_still : (i : ℕ) (c : QueueCall) → Is (line i c) → steps_of k (core_at k r) v (line i c) ≡ [] → queue_past c ≡ (λ (us : List Turn). us) → IsStill
   line_still i c is none turns = no_steps (line i c) is none (λ j. ap (λ (f : List Turn → List Turn). if i == j then f (line_at k r j) else line_at k r j) turns ∙ either (i == j) (line_at k r j))
 
   so_at : (j w : ℕ) (s : Standing) → (custody_at k r' j ≡ custody_at k r j) × (line_at k r' j ≡ line_at k r j) → (written_at k r').next ≡ (written_at k r).next → Truth k r w j s → Truth k r' w j s
@@ -1407,10 +1408,6 @@ module _ (k : HallTerms) (r : Run k) (a : Agrees k r) (m : Step k r) where
           let vs : List Knows = (hall_at k r).views in
           some-injective (dealt v) x (sym (at_longer (set vs m.made.pass (dealt v)) (fresh v ∷ []) m.made.pass (dealt v) (set_here vs m.made.pass (dealt v) (there vs m.made.pass v v live.pass).0)) ∙ e)
 
-  -- the new pass is among the others
-  pub split_others : Is split → Others
-  split_others is = still_others (λ i below. still i below (ap (concerns i) is)) (split_next is)
-
   pub join_own : (other : ℕ) (w : Knows) → Is (join other w) → Own
   join_own other w is = own_by (join other w) (merged v w) is view (λ j below. stands_away k r' (merged v w) j (both_away j v.calls w.calls (free_away k r a m.made.pass j v live below empty) (free_away k r a other j w its below may.3)) (λ l h. empty.locks j l h))
     where
@@ -1438,27 +1435,11 @@ module _ (k : HallTerms) (r : Run k) (a : Agrees k r) (m : Step k r) where
   block_is stamp b q is = commits.history_is k r a m stamp b q is
 
   pub unwritten : ((stamp : ℕ) (b : Block) (q : PackageView) → m.made.operation ≢ commit stamp b q) → (written_at k r').history ≡ (written_at k r).history
-  unwritten never = ap (λ (w : Written). w.history) (written_by _ refl) ∙ by m.made.operation refl
-    where
-      by : (o : Operation) → Is o → (write_all k.image.value (written_at k r) (steps_of k (core_at k r) v o)).history ≡ (written_at k r).history
-      by (claim u word q) is = history_of_claim k (core_at k r) (written_at k r) v.worker u (place_of word)
-      by (take i l) is = history_of_take k.image.value (written_at k r) v.worker i _
-      by (commit stamp b q) is = absurd (never stamp b q is)
-      by (put q place) is = history_of_put k.image.value (written_at k r) v.worker q.context.thread place
-      by (line j (Did_leave u Left)) is = refl
-      by (line j (Did_leave u (Followed tail))) is = refl
-      by (line j (Did_enter u a)) is = refl
-      by (line j (Did_link b u)) is = refl
-      by (line j (Did_ask u x)) is = refl
-      by (free l) is = refl
-      by (miss word wanted found) is = refl
-      by (look u found) is = refl
-      by stop is = refl
-      by (stopped found) is = refl
-      by (reach slot) is = refl
-      by (lay slot) is = refl
-      by split is = refl
-      by (join other w) is = refl
+  unwritten never = after_any (λ next h. h ≡ (written_at k r).history) refl
+      (λ u word q is. history_of_claim k (core_at k r) (written_at k r) v.worker u (place_of word))
+      (λ i l is. history_of_take k.image.value (written_at k r) v.worker i _)
+      (λ stamp b q is. absurd (never stamp b q is))
+      (λ q place is. history_of_put k.image.value (written_at k r) v.worker q.context.thread place)
 
   pub written_commit : (stamp : ℕ) (b : Block) (q : PackageView) → Is (commit stamp b q) → IsWrittenSo k r'
   written_commit stamp b q is = written_so k r' (block_is stamp b q is ∙ (ap (λ (h : List Block). h ++ sealed_block stamp v.worker b ∷ []) a.written.sealed ∙ ap (λ (o : Operation). sealed_in r.order ++ sealed_by v o) (sym is)))
@@ -1467,9 +1448,6 @@ module _ (k : HallTerms) (r : Run k) (a : Agrees k r) (m : Step k r) where
   written_else never = written_so k r' (unwritten never ∙ (a.written.sealed ∙ (sym (append-nil (sealed_in r.order)) ∙ ap (λ (h : List Block). sealed_in r.order ++ h) (sym (sealed_none v m.made.operation never)))))
 
   -- ---- the order of service
-
-  given_at : (i : ℕ) → List Turn
-  given_at i = given_first (custody_at k r i).place (custody_at k r i).left (line_at k r i)
 
   served_by : (i : ℕ) (gone es gs us : List Turn) → entered_by i m.made.operation ≡ es → given_by i v m.made.operation ≡ gs → line_at k r' i ≡ us → entered_in i r.order ++ es ≡ gone ++ us
       → given_in i r.order ++ gs ≡ gone ++ given_first (custody_at k r' i).place (custody_at k r' i).left us → IsServed k r' i
@@ -1568,8 +1546,8 @@ module _ (k : HallTerms) (r : Run k) (a : Agrees k r) (m : Step k r) where
       elsewhere : (o : Operation) → Is o → concerns i o ≡ false → IsServed k r' i
       elsewhere o is out = (let s = still i below (ap (concerns i) is ∙ out) in served_at i below (ap (entered_by i) is ∙ entered_else i o out) (ap (given_by i v) is ∙ given_else i v o out) s.1 s.0)
 
-      quiet : (c : QueueCall) → Is (line i c) → entered_by i (line i c) ≡ [] → turns_past c (line_at k r i) ≡ line_at k r i → steps_of k (core_at k r) v (line i c) ≡ [] → IsServed k r' i
-      quiet c is none turns steps = served_at i below (ap (entered_by i) is ∙ none) (ap (given_by i v) is) (line_by i (line i c) is ∙ (pick_mine i (turns_past c (line_at k r i)) (line_at k r i) ∙ turns)) (custody_by i [] (is_steps (line i c) is ∙ steps))
+      quiet : (c : QueueCall) → Is (line i c) → entered_by i (line i c) ≡ [] → queue_past c (line_at k r i) ≡ line_at k r i → steps_of k (core_at k r) v (line i c) ≡ [] → IsServed k r' i
+      quiet c is none turns steps = served_at i below (ap (entered_by i) is ∙ none) (ap (given_by i v) is) (line_by i (line i c) is ∙ (pick_mine i (queue_past c (line_at k r i)) (line_at k r i) ∙ turns)) (custody_by i [] (is_steps (line i c) is ∙ steps))
 
       here : (c : QueueCall) → Is (line i c) → IsServed k r' i
       here (Did_enter u e) is = served_enter i u e is below

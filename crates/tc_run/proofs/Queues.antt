@@ -149,14 +149,6 @@ one_place (y ∷ us) zero (suc m) u x once e f same = absurd (never y us m x onc
 one_place (y ∷ us) (suc n) zero u x once e f same = absurd (never y us n u once e (ap (λ (z : Turn). z.thread) (some-injective y x f) ∙ sym same))
 one_place (y ∷ us) (suc n) (suc m) u x once e f same = (let r = one_place us n m u x once.1 e f same in (ap suc r.0, r.1))
 
-pub out_turn : (us : List Turn) (t : ℕ) → is_in_line (threads_of us) t ≡ true → (n : ℕ) × (u : Turn) × (get_elem? us n ≡ some u) × (u.thread ≡ t)
-out_turn [] t e = absurd (cc e)
-out_turn (u ∷ us) t e = by (λ h. out_turn us t h) (u.thread == t) refl e
-  where
-    by : (is_in_line (threads_of us) t ≡ true → (n : ℕ) × (x : Turn) × (get_elem? us n ≡ some x) × (x.thread ≡ t)) → (b : Bool) → (u.thread == t) ≡ b → (b || is_in_line (threads_of us) t) ≡ true → (n : ℕ) × (x : Turn) × (get_elem? (u ∷ us) n ≡ some x) × (x.thread ≡ t)
-    by later true is h = (0, u, refl, eqb-true u.thread t is)
-    by later false is h = (let r = later h in (suc r.0, r.1, r.2, r.3))
-
 -- ---- a list with one more at its end, and without its first
 
 pub get_front : (us vs : List Turn) (n : ℕ) (x : Turn) → get_elem? us n ≡ some x → get_elem? (us ++ vs) n ≡ some x

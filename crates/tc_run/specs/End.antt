@@ -8,7 +8,7 @@ use Rattle.tc_hall.specs.declared.board.Knows.{Knows}
 use Rattle.tc_hall.specs.Closing.{HasSteps, MadeNone}
 use Rattle.tc_run.specs.Run.{IsRun, events_in}
 
--- those of these steps, in their one order
+-- the operations of these steps, in their one order, are a run, whose events write the history
 pub record AreRun (k : HallTerms) (v : Knows) (history : List Block) (steps : HasSteps k v history) : Type 0 where
   pub run : IsRun k steps.ordered.first steps.ordered.order
   pub writes : history_of k.image.value k.fuel (events_in k steps.ordered.order) ≡ history

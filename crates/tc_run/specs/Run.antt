@@ -87,13 +87,13 @@ abbrev pub waits_at : ℕ → Place → Bool
 waits_at i (Waiting j) = j == i
 waits_at i place = false
 
-abbrev pub turns_past : QueueCall → List Turn → List Turn
-turns_past (Did_enter u a) us = us ++ u ∷ []
-turns_past (Did_leave u Left) us = []
-turns_past c us = us
+abbrev pub queue_past : QueueCall → List Turn → List Turn
+queue_past (Did_enter u a) us = us ++ u ∷ []
+queue_past (Did_leave u Left) us = []
+queue_past c us = us
 
 abbrev pub line_past : ℕ → Operation → List Turn → List Turn
-line_past i (line j c) us = if j == i then turns_past c us else us
+line_past i (line j c) us = if j == i then queue_past c us else us
 line_past i (claim t word q) us = if waits_at i (place_of word) then without_first us else us
 line_past i o us = us
 

@@ -7,7 +7,7 @@
 //! the batch rule. No word is read or written here, and no code runs: the function is a law.
 //!
 //! - `specs/Run.antt`: the events and the lines of an order of operations, and the law.
-//!   `specs/End.antt`: the law of the order that a hall had at its end.
+//!   `specs/End.antt`: the same of the order that a hall had at its end, a lemma for the crates above.
 //!
 //! The files of proofs/, by what they prove:
 //!

@@ -17,6 +17,10 @@
 //! - `crew`: all workers in parallel. `bell`: their start barrier. `idling`: the back-off of one
 //!   that finds nothing. `lines`: the queues of all locks, and their seats. `run`: whole runs.
 //!
+//! The files of proofs/: `Passes`, `Desks`, `Running` and `Turning`, the steps of a worker; `Stances`, how
+//! its pass stands at the lines; `Leaving` and `Unstopped`, stops; `Hiring`, `Rows`, `Crossing` and
+//! `Joining`, a crew; `Machine`, its run as one of the abstract machine.
+//!
 //! The parts of a run are public, so that others can drive desks by hand, as tc_workers_tests does:
 //! `hire` makes a crew and `together` runs it; `try_claim`, `wanted_lock`, `seal_block` and `next`
 //! are what a worker does between the calls of its desk.

@@ -1,17 +1,14 @@
-use Rattle.std.proofs.Common.{◌≡◌, ◌≢◌, ◌⊎◌, ℕ, Bool, if◌then◌else◌, List, refl, [], ◌∷◌, subst, sym, ap, ◌∙◌, inr, true, Option, Some, None}
+use Rattle.std.proofs.Common.{◌≡◌, ◌⊎◌, ℕ, Bool, if◌then◌else◌, List, refl, [], ◌∷◌, subst, sym, ap, ◌∙◌, inr, Some, None}
 use Rattle.tc_queue.specs.Lines.{Enter, answer}
-use Rattle.tc_combiner.proofs.Vocabulary.{Behind, BeginsAs, DeskParts, First, Has, HasNone, LineCall, Link, Owns, Pack, PackageView, PassCall, Turn, Waiting, bare, outs, packed, put_call, with_turns}
+use Rattle.tc_combiner.proofs.Vocabulary.{Behind, BeginsAs, DeskParts, First, Has, LineCall, Link, Pack, PackageView, PassCall, Turn, Waiting, bare, packed, put_call}
 use Rattle.tc_combiner.proofs.Acting.{acts_by, acts_lined, acts_then, at_after, begun_as}
 use Rattle.tc_combiner.proofs.Acquiring.{at_counted, first_after, goes_on, is_counted, may_wait, ships, still_asks, stops_second}
-use Rattle.tc_queue.specs.declared.turn.Entered.TheVariants.{Behind as Own_behind, First as Own_first}
 use Rattle.tc_lemmas.proofs.Tests.{eq_self}
 use Rattle.tc_hall.proofs.Outs.{is_there}
-use Rattle.tc_hall.specs.Standing.{EntersAs, last_turn, turn_by}
+use Rattle.tc_hall.specs.Standing.{EntersAs}
 use Rattle.tc_hall.specs.Steps.{HasStop}
-use Rattle.tc_combiner.specs.Stances.{EnteredAs, KnowsLines}
-use Rattle.tc_combiner.proofs.Stances.{behind_past, first_past, link_same}
-use Rattle.tc_combiner.proofs.Lining.{aside_apart, entered_as, enters_as, if_lined, links_as, same_lines, ship_lines, ships_as, wants_absent}
-use Rattle.tc_combiner.proofs.Packages.{no_other}
+use Rattle.tc_combiner.proofs.Stances.{first_past, link_same}
+use Rattle.tc_combiner.proofs.Lining.{enters_as, is_behind, is_first, links_as, same_lines, ship_lines, ships_as, wants_absent}
 use Rattle.tc_combiner.proofs.acquire.acquire_with.Goals as goal
 
 pub acquire_first-requires-clause-parts : goal.acquire_first-requires-clause-parts
@@ -97,104 +94,36 @@ enter-requires-clause-stands g c = λ i of lined.
 
 pub acquire_first-requires-clause-lines : goal.acquire_first-requires-clause-lines
 acquire_first-requires-clause-lines g c =
-    let k = c.args.hall.now.terms in
-    let v = c.args.parts.now.pass.knows in
-    let w = c.enter.new.pass.knows in
-    let q = c.args.«package» in
-    let a = c.args.parts.now.aside in
     let own : Turn = record { thread = c.thread.result; number = c.next_number.result } in
     let laws = g.met.Q.Order g.world.𝓛 g.world.𝓜 g.world.𝓡 ((λ s x. x), (λ x. x), (λ x. x), λ x. x) in
-    let thread : own.thread ≡ q.context.thread = c.thread.ensures ∙ ap (λ (x : PackageView). x.context.thread) c.next_number.ensures.rest in
-    let did = first_past k c.args.lock own (λ (d : LineCall) (cs : List PassCall). g.Q.Order.notes c.args.queue.now d cs) c.args.parts.now.pass c.enter.new.pass (λ cs lined n. laws.lined c.args.queue.now c.args.hall.now c.args.lock (Enter own First) cs c.requires.line.0 c.requires.line.1 lined n) (c.in-First.ensures {u = tt}).told in
-    let apart : (d : PackageView) → a ≡ Some d → d.context.thread ≢ own.thread = λ d e same.
-    aside_apart v q d c.requires.parts.out.0 (subst (λ (o : Option PackageView). Owns c.requires.parts.out.0 (outs v) (Pack q ∷ packed o)) e c.requires.parts.out.1) (same ∙ thread) in
-    let entered : EnteredAs k w c.args.lock own None (Pack (with_turns own.number q) ∷ packed a) = entered_as k v c.args.lock own q a (λ d e. (c.requires.parts.aside d e).free) thread c.requires.lines w None Own_first (λ s. refl) did apart in
-    subst (λ (x : PackageView). EnteredAs k w c.args.lock (turn_by x.context.thread own.number) None (Pack x ∷ packed a)) (sym c.next_number.ensures.rest)
-    (subst (λ (t : ℕ). EnteredAs k w c.args.lock (turn_by t own.number) None (Pack (with_turns own.number q) ∷ packed a)) thread entered)
+    is_first c.args.hall.now c.args.lock own c.args.«package» c.next_number.new.self c.args.parts.now c.enter.new.pass c.thread.ensures c.next_number.ensures.rest c.requires.parts c.requires.lines
+    (first_past c.args.hall.now.terms c.args.lock own (λ (d : LineCall) (cs : List PassCall). g.Q.Order.notes c.args.queue.now d cs) c.args.parts.now.pass c.enter.new.pass (λ cs lined n. laws.lined c.args.queue.now c.args.hall.now c.args.lock (Enter own First) cs c.requires.line.0 c.requires.line.1 lined n) (c.in-First.ensures {u = tt}).told)
 
 pub ship-requires-clause-stands : goal.ship-requires-clause-stands
 ship-requires-clause-stands g c =
-    let k = c.args.hall.now.terms in
-    let v = c.args.parts.now.pass.knows in
-    let w = c.enter.new.pass.knows in
-    let q = c.args.«package» in
-    let p = c.next_number.new.self in
-    let a = c.args.parts.now.aside in
     let own : Turn = record { thread = c.thread.result; number = c.next_number.result } in
     let laws = g.met.Q.Order g.world.𝓛 g.world.𝓜 g.world.𝓡 ((λ s x. x), (λ x. x), (λ x. x), λ x. x) in
-    let free : (d : PackageView) → a ≡ Some d → HasNone d = λ d e. (c.requires.parts.aside d e).free in
-    let thread : own.thread ≡ q.context.thread = c.thread.ensures ∙ ap (λ (x : PackageView). x.context.thread) c.next_number.ensures.rest in
-    let told = (c.in-Behind.ensures {u = tt}).told in
-    let apart : (d : PackageView) → a ≡ Some d → d.context.thread ≢ own.thread = λ d e same.
-    aside_apart v q d c.requires.parts.out.0 (subst (λ (o : Option PackageView). Owns c.requires.parts.out.0 (outs v) (Pack q ∷ packed o)) e c.requires.parts.out.1) (same ∙ thread) in
-    let still = still_asks k c.args.lock q p c.next_number.result c.next_number.ensures.rest c.requires.may in
-    let absent = wants_absent p c.args.lock still.want still.plain.locks in
-    let held = no_other p still.plain.locks in
-    let did : k.lined ≡ true → (b : Turn) × EnteredAs k w c.args.lock (last_turn p) (Some b) (Pack p ∷ packed a) = λ lined.
-    let past = behind_past k c.args.lock own (g.Q.Order.mark c.in-Behind.place) (g.Q.Order.notes c.args.queue.now (Enter own (Behind (g.Q.Order.mark c.in-Behind.place)))) c.args.parts.now.pass c.enter.new.pass told
-    (laws.lined c.args.queue.now c.args.hall.now c.args.lock (Enter own (Behind (g.Q.Order.mark c.in-Behind.place))) told.calls c.requires.line.0 c.requires.line.1 lined told.notes) in (
-      past.0,
-      subst (λ (x : PackageView). EnteredAs k w c.args.lock (last_turn x) (Some past.0) (Pack x ∷ packed a)) (sym c.next_number.ensures.rest)
-          (subst (λ (t : ℕ). EnteredAs k w c.args.lock (turn_by t own.number) (Some past.0) (Pack (with_turns own.number q) ∷ packed a)) thread
-          (entered_as k v c.args.lock own q a free thread c.requires.lines w (Some past.0) (Own_behind past.0) (λ s. refl) past.1 apart)),
-    ) in
-    λ lined. inr (let d = did lined in ships_as k w c.args.lock d.0 p a free absent held d.1 lined)
+    let mark = g.Q.Order.mark c.in-Behind.place in
+    let behind = is_behind c.args.hall.now c.args.lock own c.args.«package» c.next_number.new.self c.args.parts.now c.enter.new.pass c.thread.ensures c.next_number.ensures.rest c.requires.parts c.requires.lines c.requires.may mark (g.Q.Order.notes c.args.queue.now (Enter own (Behind mark)))
+    (c.in-Behind.ensures {u = tt}).told (λ cs lined n. laws.lined c.args.queue.now c.args.hall.now c.args.lock (Enter own (Behind mark)) cs c.requires.line.0 c.requires.line.1 lined n) in
+    ships_as c.args.hall.now.terms c.enter.new.pass.knows c.args.lock c.next_number.new.self c.args.parts.now.aside behind
 
 pub link-requires-clause-stands : goal.link-requires-clause-stands
 link-requires-clause-stands g c =
-    let k = c.args.hall.now.terms in
-    let v = c.args.parts.now.pass.knows in
-    let w = c.enter.new.pass.knows in
-    let q = c.args.«package» in
-    let p = c.next_number.new.self in
-    let a = c.args.parts.now.aside in
     let own : Turn = record { thread = c.thread.result; number = c.next_number.result } in
     let laws = g.met.Q.Order g.world.𝓛 g.world.𝓜 g.world.𝓡 ((λ s x. x), (λ x. x), (λ x. x), λ x. x) in
-    let free : (d : PackageView) → a ≡ Some d → HasNone d = λ d e. (c.requires.parts.aside d e).free in
-    let thread : own.thread ≡ q.context.thread = c.thread.ensures ∙ ap (λ (x : PackageView). x.context.thread) c.next_number.ensures.rest in
-    let told = (c.in-Behind.ensures {u = tt}).told in
-    let apart : (d : PackageView) → a ≡ Some d → d.context.thread ≢ own.thread = λ d e same.
-    aside_apart v q d c.requires.parts.out.0 (subst (λ (o : Option PackageView). Owns c.requires.parts.out.0 (outs v) (Pack q ∷ packed o)) e c.requires.parts.out.1) (same ∙ thread) in
-    let still = still_asks k c.args.lock q p c.next_number.result c.next_number.ensures.rest c.requires.may in
-    let absent = wants_absent p c.args.lock still.want still.plain.locks in
-    let held = no_other p still.plain.locks in
-    let did : k.lined ≡ true → (b : Turn) × EnteredAs k w c.args.lock (last_turn p) (Some b) (Pack p ∷ packed a) = λ lined.
-    let past = behind_past k c.args.lock own (g.Q.Order.mark c.in-Behind.place) (g.Q.Order.notes c.args.queue.now (Enter own (Behind (g.Q.Order.mark c.in-Behind.place)))) c.args.parts.now.pass c.enter.new.pass told
-    (laws.lined c.args.queue.now c.args.hall.now c.args.lock (Enter own (Behind (g.Q.Order.mark c.in-Behind.place))) told.calls c.requires.line.0 c.requires.line.1 lined told.notes) in (
-      past.0,
-      subst (λ (x : PackageView). EnteredAs k w c.args.lock (last_turn x) (Some past.0) (Pack x ∷ packed a)) (sym c.next_number.ensures.rest)
-          (subst (λ (t : ℕ). EnteredAs k w c.args.lock (turn_by t own.number) (Some past.0) (Pack (with_turns own.number q) ∷ packed a)) thread
-          (entered_as k v c.args.lock own q a free thread c.requires.lines w (Some past.0) (Own_behind past.0) (λ s. refl) past.1 apart)),
-    ) in
-    let lines : KnowsLines k c.ship.new.pass.knows (packed a) = if_lined k c.ship.new.pass.knows (packed a) (λ lined. let d = did lined in ship_lines k w c.args.lock d.0 p a free absent held d.1 c.ship.new.pass.knows c.ship.ensures.told) in
-    λ i of lined. inr (links_as k c.ship.new.pass.knows i own a free lines lined)
+    let mark = g.Q.Order.mark c.in-Behind.place in
+    let behind = is_behind c.args.hall.now c.args.lock own c.args.«package» c.next_number.new.self c.args.parts.now c.enter.new.pass c.thread.ensures c.next_number.ensures.rest c.requires.parts c.requires.lines c.requires.may mark (g.Q.Order.notes c.args.queue.now (Enter own (Behind mark)))
+    (c.in-Behind.ensures {u = tt}).told (λ cs lined n. laws.lined c.args.queue.now c.args.hall.now c.args.lock (Enter own (Behind mark)) cs c.requires.line.0 c.requires.line.1 lined n) in
+    λ i of lined. inr (links_as c.args.hall.now.terms c.ship.new.pass.knows i own c.args.parts.now.aside behind.free (ship_lines c.args.hall.now.terms c.enter.new.pass.knows c.args.lock c.next_number.new.self c.args.parts.now.aside behind c.ship.new.pass.knows c.ship.ensures.told) lined)
 
 pub returns-in-Behind-clause-lines : goal.returns-in-Behind-clause-lines
 returns-in-Behind-clause-lines g c =
-    let k = c.args.hall.now.terms in
-    let v = c.args.parts.now.pass.knows in
-    let w = c.enter.new.pass.knows in
-    let q = c.args.«package» in
-    let p = c.next_number.new.self in
-    let a = c.args.parts.now.aside in
     let own : Turn = record { thread = c.thread.result; number = c.next_number.result } in
     let laws = g.met.Q.Order g.world.𝓛 g.world.𝓜 g.world.𝓡 ((λ s x. x), (λ x. x), (λ x. x), λ x. x) in
-    let free : (d : PackageView) → a ≡ Some d → HasNone d = λ d e. (c.requires.parts.aside d e).free in
-    let thread : own.thread ≡ q.context.thread = c.thread.ensures ∙ ap (λ (x : PackageView). x.context.thread) c.next_number.ensures.rest in
-    let told = (c.in-Behind.ensures {u = tt}).told in
-    let apart : (d : PackageView) → a ≡ Some d → d.context.thread ≢ own.thread = λ d e same.
-    aside_apart v q d c.requires.parts.out.0 (subst (λ (o : Option PackageView). Owns c.requires.parts.out.0 (outs v) (Pack q ∷ packed o)) e c.requires.parts.out.1) (same ∙ thread) in
-    let still = still_asks k c.args.lock q p c.next_number.result c.next_number.ensures.rest c.requires.may in
-    let absent = wants_absent p c.args.lock still.want still.plain.locks in
-    let held = no_other p still.plain.locks in
-    let did : k.lined ≡ true → (b : Turn) × EnteredAs k w c.args.lock (last_turn p) (Some b) (Pack p ∷ packed a) = λ lined.
-    let past = behind_past k c.args.lock own (g.Q.Order.mark c.in-Behind.place) (g.Q.Order.notes c.args.queue.now (Enter own (Behind (g.Q.Order.mark c.in-Behind.place)))) c.args.parts.now.pass c.enter.new.pass told
-    (laws.lined c.args.queue.now c.args.hall.now c.args.lock (Enter own (Behind (g.Q.Order.mark c.in-Behind.place))) told.calls c.requires.line.0 c.requires.line.1 lined told.notes) in (
-      past.0,
-      subst (λ (x : PackageView). EnteredAs k w c.args.lock (last_turn x) (Some past.0) (Pack x ∷ packed a)) (sym c.next_number.ensures.rest)
-          (subst (λ (t : ℕ). EnteredAs k w c.args.lock (turn_by t own.number) (Some past.0) (Pack (with_turns own.number q) ∷ packed a)) thread
-          (entered_as k v c.args.lock own q a free thread c.requires.lines w (Some past.0) (Own_behind past.0) (λ s. refl) past.1 apart)),
-    ) in
-    let lines : KnowsLines k c.ship.new.pass.knows (packed a) = if_lined k c.ship.new.pass.knows (packed a) (λ lined. let d = did lined in ship_lines k w c.args.lock d.0 p a free absent held d.1 c.ship.new.pass.knows c.ship.ensures.told) in
-    same_lines k c.ship.new.pass.knows c.link.new.pass.knows (packed a) (link_same k c.args.lock (g.Q.Order.mark c.in-Behind.place) own (g.Q.Order.notes c.args.queue.now (Link (g.Q.Order.mark c.in-Behind.place) own)) c.ship.new.pass c.link.new.pass c.link.ensures.told
-    (λ lined. laws.lined c.args.queue.now c.args.hall.now c.args.lock (Link (g.Q.Order.mark c.in-Behind.place) own) c.link.ensures.told.calls c.requires.line.0 c.requires.line.1 lined c.link.ensures.told.notes)) lines
+    let mark = g.Q.Order.mark c.in-Behind.place in
+    let behind = is_behind c.args.hall.now c.args.lock own c.args.«package» c.next_number.new.self c.args.parts.now c.enter.new.pass c.thread.ensures c.next_number.ensures.rest c.requires.parts c.requires.lines c.requires.may mark (g.Q.Order.notes c.args.queue.now (Enter own (Behind mark)))
+    (c.in-Behind.ensures {u = tt}).told (λ cs lined n. laws.lined c.args.queue.now c.args.hall.now c.args.lock (Enter own (Behind mark)) cs c.requires.line.0 c.requires.line.1 lined n) in
+    same_lines c.args.hall.now.terms c.ship.new.pass.knows c.link.new.pass.knows (packed c.args.parts.now.aside)
+    (link_same c.args.hall.now.terms c.args.lock mark own (g.Q.Order.notes c.args.queue.now (Link mark own)) c.ship.new.pass c.link.new.pass c.link.ensures.told (λ lined. laws.lined c.args.queue.now c.args.hall.now c.args.lock (Link mark own) c.link.ensures.told.calls c.requires.line.0 c.requires.line.1 lined c.link.ensures.told.notes))
+    (ship_lines c.args.hall.now.terms c.enter.new.pass.knows c.args.lock c.next_number.new.self c.args.parts.now.aside behind c.ship.new.pass.knows c.ship.ensures.told)

@@ -1,7 +1,7 @@
-use Rattle.std.proofs.Common.{◌≡◌, List, [], ◌∷◌, ◌<◌, ℕ, false, refl, sym, ap, ◌∙◌, subst, inr}
-use Rattle.tc_combiner.proofs.Vocabulary.{Free, Outs, PackageView, PassCall, DidTakeOut, FollowedAs, IsTurn, LockView, Turn, Was_stopped, Went_home, bare, by_parts, change, has, saw, threads, turn_of}
+use Rattle.std.proofs.Common.{◌≡◌, List, [], ◌∷◌, ◌<◌, ℕ, refl, sym, ap, ◌∙◌, subst, inr}
+use Rattle.tc_combiner.proofs.Vocabulary.{Free, Outs, PackageView, PassCall, FollowedAs, IsTurn, LockView, Turn, Was_stopped, Went_home, bare, by_parts, change, saw, threads, turn_of}
 use Rattle.tc_combiner.proofs.Acting.{same_outs}
-use Rattle.tc_combiner.proofs.PassedOn.{block_thread, frees, is_beside, is_released, may_lock, passes, released_free, taken_free, turn_is}
+use Rattle.tc_combiner.proofs.PassedOn.{frees, is_beside, is_released, may_lock, passes, released_free, taken_free, took_released, turn_is}
 use Rattle.tc_combiner.proofs.Looking.{looks_first}
 use Rattle.tc_hall.specs.Standing.{FreesAs, StandsAs, loose, turn_in}
 use Rattle.tc_combiner.proofs.Stances.{past_called}
@@ -20,130 +20,89 @@ find_next-requires-clause-asks g c = λ κs b. record {
 
 pub grant_next-requires : goal.grant_next-requires
 grant_next-requires g c =
-    let i = c.args.released.lock in
-    let k = c.args.hall.now.terms in
-    let v = c.args.parts.now.pass.knows in
-    let w = c.find_next.new.pass.knows in
-    let l = c.take_out-state.result in
-    let q = c.args.«package».now in
-    let p = c.take_out-state.new.self in
-    let d : DidTakeOut c.args.released.lock c.take_out-state.result c.args.«package».now c.take_out-state.new.self = record { was = c.take_out-state.ensures.lock; is = c.take_out-state.ensures.is; locks = c.take_out-state.ensures.locks; rest = c.take_out-state.ensures.rest } in
+    let d = took_released c.args.hall.now.terms c.args.parts.now.pass.knows c.args.released.lock c.args.released.block.now c.take_out-state.result c.args.«package».now c.take_out-state.new.self c.keeps.ensures.sound c.requires.may.release c.take_out-state.ensures.lock c.take_out-state.ensures.is c.take_out-state.ensures.locks c.take_out-state.ensures.rest in
     let own : Turn = record { thread = c.thread.result; number = c.number_of.result } in
-    let held : has q.context.guest.held i ≡ false = released_free c.args.«package».now c.args.released.block.now c.args.released.lock c.keeps.ensures.sound c.requires.may.release.last c.requires.may.release.released in
-    let none = c.requires.may.release.granted in
-    let thread = block_thread c.args.«package».now c.args.released.block.now c.keeps.ensures.sound c.requires.may.release.last in
     let e = c.in-Next.ensures {u = tt} in record {
       may = record {
-        parts = may_lock c.args.hall.now 1 c.args.released.lock c.take_out-state.result c.args.«package».now c.take_out-state.new.self c.args.parts.now _ d e.acts refl refl c.requires.may.parts;
-        released = is_released c.args.hall.now.terms c.args.parts.now.pass.knows c.find_next.new.pass.knows c.args.released.lock c.args.released.block.now c.take_out-state.result c.args.«package».now c.keeps.ensures.sound c.requires.may.release e.acts.adds.told.image e.acts.adds.told.worker d.was d.rest;
+        parts = may_lock c.args.hall.now 1 c.args.released.lock c.take_out-state.result c.args.«package».now c.take_out-state.new.self c.args.parts.now _ d.out e.acts refl refl c.requires.may.parts;
+        released = is_released c.args.hall.now.terms c.args.parts.now.pass.knows c.find_next.new.pass.knows c.args.released.lock c.args.released.block.now c.take_out-state.result c.args.«package».now c.keeps.ensures.sound c.requires.may.release e.acts.adds.told.image e.acts.adds.told.worker d.out.was d.out.rest;
         turn = subst (λ (n : ℕ). IsTurn n c.in-Next.next) (c.requires.seat.of.1 ∙ c.requires.seat.made) e.found.1;
       };
-      lines = (p, turn_in q i, ap (λ (x : PackageView). x.context.thread) d.is ∙ sym thread, followed_by k c.args.parts.now.pass c.find_next.new.pass i l own c.in-Next.next q p d held none c.requires.lines (e.so i c.requires.line.1) e.acts c.requires.may.parts.at.out);
-      beside = (bare c.args.«package».now, is_beside c.args.parts.now.pass.knows c.find_next.new.pass.knows c.args.«package».now c.args.released.block.now.thread c.requires.may.parts.at.out (same_outs _ c.args.parts.now.pass c.find_next.new.pass e.acts) (block_thread c.args.«package».now c.args.released.block.now c.keeps.ensures.sound c.requires.may.release.last));
+      lines = (
+        c.take_out-state.new.self,
+        turn_in c.args.«package».now c.args.released.lock,
+        ap (λ (x : PackageView). x.context.thread) d.out.is ∙ sym d.thread,
+        followed_by c.args.hall.now.terms c.args.parts.now.pass c.find_next.new.pass c.args.released.lock c.take_out-state.result own c.in-Next.next c.args.«package».now c.take_out-state.new.self d.out d.held d.none c.requires.lines (e.so c.args.released.lock c.requires.line.1) e.acts c.requires.may.parts.at.out,
+      );
+      beside = (bare c.args.«package».now, is_beside c.args.parts.now.pass.knows c.find_next.new.pass.knows c.args.«package».now c.args.released.block.now.thread c.requires.may.parts.at.out (same_outs _ c.args.parts.now.pass c.find_next.new.pass e.acts) d.thread);
     }
 
 pub free-requires-clause-may : goal.free-requires-clause-may
 free-requires-clause-may g c =
-    let d : DidTakeOut c.args.released.lock c.take_out-state.result c.args.«package».now c.take_out-state.new.self = record { was = c.take_out-state.ensures.lock; is = c.take_out-state.ensures.is; locks = c.take_out-state.ensures.locks; rest = c.take_out-state.ensures.rest } in
+    let d = took_released c.args.hall.now.terms c.args.parts.now.pass.knows c.args.released.lock c.args.released.block.now c.take_out-state.result c.args.«package».now c.take_out-state.new.self c.keeps.ensures.sound c.requires.may.release c.take_out-state.ensures.lock c.take_out-state.ensures.is c.take_out-state.ensures.locks c.take_out-state.ensures.rest in
     let e = c.in-Nobody.ensures {u = tt} in
-    taken_free c.args.hall.now _ c.args.released.lock c.take_out-state.result c.args.«package».now c.take_out-state.new.self c.args.parts.now.pass c.find_next.new.pass c.args.parts.now.aside d c.requires.may.release.lock c.requires.may.parts.at e.acts
+    taken_free c.args.hall.now _ c.args.released.lock c.take_out-state.result c.args.«package».now c.take_out-state.new.self c.args.parts.now.pass c.find_next.new.pass c.args.parts.now.aside d.out c.requires.may.release.lock c.requires.may.parts.at e.acts
 
 pub free-requires-in-Stopped-clause-may : goal.free-requires-in-Stopped-clause-may
 free-requires-in-Stopped-clause-may g c =
-    let d : DidTakeOut c.args.released.lock c.take_out-state.result c.args.«package».now c.take_out-state.new.self = record { was = c.take_out-state.ensures.lock; is = c.take_out-state.ensures.is; locks = c.take_out-state.ensures.locks; rest = c.take_out-state.ensures.rest } in
+    let d = took_released c.args.hall.now.terms c.args.parts.now.pass.knows c.args.released.lock c.args.released.block.now c.take_out-state.result c.args.«package».now c.take_out-state.new.self c.keeps.ensures.sound c.requires.may.release c.take_out-state.ensures.lock c.take_out-state.ensures.is c.take_out-state.ensures.locks c.take_out-state.ensures.rest in
     let e = c.in-Stopped.ensures {u = tt} in
-    taken_free c.args.hall.now _ c.args.released.lock c.take_out-state.result c.args.«package».now c.take_out-state.new.self c.args.parts.now.pass c.find_next.new.pass c.args.parts.now.aside d c.requires.may.release.lock c.requires.may.parts.at e.acts
+    taken_free c.args.hall.now _ c.args.released.lock c.take_out-state.result c.args.«package».now c.take_out-state.new.self c.args.parts.now.pass c.find_next.new.pass c.args.parts.now.aside d.out c.requires.may.release.lock c.requires.may.parts.at e.acts
 
 pub returns-in-Next-clause-passed : goal.returns-in-Next-clause-passed
 returns-in-Next-clause-passed g c =
-    let d : DidTakeOut c.args.released.lock c.take_out-state.result c.args.«package».now c.take_out-state.new.self = record { was = c.take_out-state.ensures.lock; is = c.take_out-state.ensures.is; locks = c.take_out-state.ensures.locks; rest = c.take_out-state.ensures.rest } in
+    let d = took_released c.args.hall.now.terms c.args.parts.now.pass.knows c.args.released.lock c.args.released.block.now c.take_out-state.result c.args.«package».now c.take_out-state.new.self c.keeps.ensures.sound c.requires.may.release c.take_out-state.ensures.lock c.take_out-state.ensures.is c.take_out-state.ensures.locks c.take_out-state.ensures.rest in
     let e = c.in-Next.ensures {u = tt} in
-    passes c.args.hall.now.terms c.args.released.lock c.args.released.block.now c.take_out-state.result _ c.in-Next.next c.args.«package».now c.take_out-state.new.self (g.Q.Order.seen c.args.seat.now) (g.Q.Order.seen c.find_next.new.seat) c.args.parts.now _ c.grant_next.new.parts c.grant_next.result d e.acts refl refl
+    passes c.args.hall.now.terms c.args.released.lock c.args.released.block.now c.take_out-state.result _ c.in-Next.next c.args.«package».now c.take_out-state.new.self (g.Q.Order.seen c.args.seat.now) (g.Q.Order.seen c.find_next.new.seat) c.args.parts.now _ c.grant_next.new.parts c.grant_next.result d.out e.acts refl refl
     (let f = c.thread.ensures in let h = c.number_of.ensures.is in cc) e.looks.2.0 e.looks e.found.0 c.grant_next.ensures.granted
 
 pub returns-in-Nobody-clause-passed : goal.returns-in-Nobody-clause-passed
 returns-in-Nobody-clause-passed g c =
-    let d : DidTakeOut c.args.released.lock c.take_out-state.result c.args.«package».now c.take_out-state.new.self = record { was = c.take_out-state.ensures.lock; is = c.take_out-state.ensures.is; locks = c.take_out-state.ensures.locks; rest = c.take_out-state.ensures.rest } in
+    let d = took_released c.args.hall.now.terms c.args.parts.now.pass.knows c.args.released.lock c.args.released.block.now c.take_out-state.result c.args.«package».now c.take_out-state.new.self c.keeps.ensures.sound c.requires.may.release c.take_out-state.ensures.lock c.take_out-state.ensures.is c.take_out-state.ensures.locks c.take_out-state.ensures.rest in
     let e = c.in-Nobody.ensures {u = tt} in
     let x = by_parts c.args.hall.now.terms c.args.«package».now (change (g.Q.Order.seen c.args.seat.now) (g.Q.Order.seen c.find_next.new.seat)) (change c.args.parts.now c.args.parts.now) in
     frees c.args.hall.now.terms [] c.args.released.lock c.take_out-state.result _ c.args.«package».now c.take_out-state.new.self (g.Q.Order.seen c.args.seat.now) (g.Q.Order.seen c.find_next.new.seat) c.args.parts.now _ c.find_next.new.pass
-    (λ (u : Turn) (l : LockView) (cs : List PassCall). FollowedAs x l c.args.released.block.now u cs Went_home) d (let f = c.thread.ensures in let h = c.number_of.ensures.is in cc) e.looks.2.0 (looks_first _ _ _ _ _ e.looks) e.acts c.free.ensures.acts refl refl refl (e.found, refl)
+    (λ (u : Turn) (l : LockView) (cs : List PassCall). FollowedAs x l c.args.released.block.now u cs Went_home) d.out (let f = c.thread.ensures in let h = c.number_of.ensures.is in cc) e.looks.2.0 (looks_first _ _ _ _ _ e.looks) e.acts c.free.ensures.acts refl refl refl (e.found, refl)
 
 pub returns-in-Stopped-clause-passed : goal.returns-in-Stopped-clause-passed
 returns-in-Stopped-clause-passed g c =
-    let d : DidTakeOut c.args.released.lock c.take_out-state.result c.args.«package».now c.take_out-state.new.self = record { was = c.take_out-state.ensures.lock; is = c.take_out-state.ensures.is; locks = c.take_out-state.ensures.locks; rest = c.take_out-state.ensures.rest } in
+    let d = took_released c.args.hall.now.terms c.args.parts.now.pass.knows c.args.released.lock c.args.released.block.now c.take_out-state.result c.args.«package».now c.take_out-state.new.self c.keeps.ensures.sound c.requires.may.release c.take_out-state.ensures.lock c.take_out-state.ensures.is c.take_out-state.ensures.locks c.take_out-state.ensures.rest in
     let e = c.in-Stopped.ensures {u = tt} in
     let x = by_parts c.args.hall.now.terms c.args.«package».now (change (g.Q.Order.seen c.args.seat.now) (g.Q.Order.seen c.find_next.new.seat)) (change c.args.parts.now c.args.parts.now) in
     frees c.args.hall.now.terms saw c.args.released.lock c.take_out-state.result _ c.args.«package».now c.take_out-state.new.self (g.Q.Order.seen c.args.seat.now) (g.Q.Order.seen c.find_next.new.seat) c.args.parts.now _ c.find_next.new.pass
-    (λ (u : Turn) (l : LockView) (cs : List PassCall). FollowedAs x l c.args.released.block.now u cs Was_stopped) d (let f = c.thread.ensures in let h = c.number_of.ensures.is in cc) e.looks.2.0 (looks_first _ _ _ _ _ e.looks) e.acts c.free-in-Stopped.ensures.acts refl refl refl refl
+    (λ (u : Turn) (l : LockView) (cs : List PassCall). FollowedAs x l c.args.released.block.now u cs Was_stopped) d.out (let f = c.thread.ensures in let h = c.number_of.ensures.is in cc) e.looks.2.0 (looks_first _ _ _ _ _ e.looks) e.acts c.free-in-Stopped.ensures.acts refl refl refl refl
 
 pub find_next-requires-clause-stands : goal.find_next-requires-clause-stands
 find_next-requires-clause-stands g c = λ κs b j of lined.
-    let i = c.args.released.lock in
-    let k = c.args.hall.now.terms in
-    let v = c.args.parts.now.pass.knows in
-    let l = c.take_out-state.result in
-    let q = c.args.«package».now in
-    let p = c.take_out-state.new.self in
-    let d : DidTakeOut c.args.released.lock c.take_out-state.result c.args.«package».now c.take_out-state.new.self = record { was = c.take_out-state.ensures.lock; is = c.take_out-state.ensures.is; locks = c.take_out-state.ensures.locks; rest = c.take_out-state.ensures.rest } in
+    let d = took_released c.args.hall.now.terms c.args.parts.now.pass.knows c.args.released.lock c.args.released.block.now c.take_out-state.result c.args.«package».now c.take_out-state.new.self c.keeps.ensures.sound c.requires.may.release c.take_out-state.ensures.lock c.take_out-state.ensures.is c.take_out-state.ensures.locks c.take_out-state.ensures.rest in
     let own : Turn = record { thread = c.thread.result; number = c.number_of.result } in
-    let held : has q.context.guest.held i ≡ false = released_free c.args.«package».now c.args.released.block.now c.args.released.lock c.keeps.ensures.sound c.requires.may.release.last c.requires.may.release.released in
-    let none = c.requires.may.release.granted in
     let laws = g.met.Q.Order g.world.𝓛 g.world.𝓜 g.world.𝓡 ((λ s x. x), (λ x. x), (λ x. x), λ x. x) in
-    let same : j ≡ i = laws.alone c.args.queue.now c.args.hall.now j i c.requires.line.0 of c.requires.line.1 lined in
-    let mine : own ≡ turn_of q i = (let f = c.thread.ensures in let h = c.number_of.ensures.is in cc (f, h)) in
-    inr (subst (λ (n : ℕ). StandsAs v n (loose own)) (sym same) (loose_stands i l q p d held none k v c.requires.lines lined ∙ ap loose (sym mine)))
+    let same : j ≡ c.args.released.lock = laws.alone c.args.queue.now c.args.hall.now j c.args.released.lock c.requires.line.0 of c.requires.line.1 lined in
+    let mine : own ≡ turn_of c.args.«package».now c.args.released.lock = (let f = c.thread.ensures in let h = c.number_of.ensures.is in cc (f, h)) in
+    inr (subst (λ (n : ℕ). StandsAs c.args.parts.now.pass.knows n (loose own)) (sym same) (loose_stands c.args.released.lock c.take_out-state.result c.args.«package».now c.take_out-state.new.self d.out d.held d.none c.args.hall.now.terms c.args.parts.now.pass.knows c.requires.lines lined ∙ ap loose (sym mine)))
 
 pub free-requires-clause-stands : goal.free-requires-clause-stands
 free-requires-clause-stands g c =
-    let i = c.args.released.lock in
-    let k = c.args.hall.now.terms in
-    let v = c.args.parts.now.pass.knows in
-    let w = c.find_next.new.pass.knows in
-    let l = c.take_out-state.result in
-    let q = c.args.«package».now in
-    let p = c.take_out-state.new.self in
-    let d : DidTakeOut c.args.released.lock c.take_out-state.result c.args.«package».now c.take_out-state.new.self = record { was = c.take_out-state.ensures.lock; is = c.take_out-state.ensures.is; locks = c.take_out-state.ensures.locks; rest = c.take_out-state.ensures.rest } in
+    let d = took_released c.args.hall.now.terms c.args.parts.now.pass.knows c.args.released.lock c.args.released.block.now c.take_out-state.result c.args.«package».now c.take_out-state.new.self c.keeps.ensures.sound c.requires.may.release c.take_out-state.ensures.lock c.take_out-state.ensures.is c.take_out-state.ensures.locks c.take_out-state.ensures.rest in
     let own : Turn = record { thread = c.thread.result; number = c.number_of.result } in
-    let held : has q.context.guest.held i ≡ false = released_free c.args.«package».now c.args.released.block.now c.args.released.lock c.keeps.ensures.sound c.requires.may.release.last c.requires.may.release.released in
-    let none = c.requires.may.release.granted in
-    frees_as k v w i l own q p d held none c.requires.lines ((c.in-Nobody.ensures {u = tt}).so i c.requires.line.1)
+    frees_as c.args.hall.now.terms c.args.parts.now.pass.knows c.find_next.new.pass.knows c.args.released.lock c.take_out-state.result own c.args.«package».now c.take_out-state.new.self d.out d.held d.none c.requires.lines ((c.in-Nobody.ensures {u = tt}).so c.args.released.lock c.requires.line.1)
 
 pub free-requires-in-Stopped-clause-stands : goal.free-requires-in-Stopped-clause-stands
 free-requires-in-Stopped-clause-stands g c = after_stop c.args.hall.now.terms c.find_next.new.pass.knows (FreesAs c.find_next.new.pass.knows c.take_out-state.result.number) ((c.in-Stopped.ensures {u = tt}).so c.args.released.lock c.requires.line.1).0
 
 pub returns-in-Next-clause-lines : goal.returns-in-Next-clause-lines
 returns-in-Next-clause-lines g c =
-    let i = c.args.released.lock in
-    let k = c.args.hall.now.terms in
-    let v = c.args.parts.now.pass.knows in
-    let w = c.find_next.new.pass.knows in
-    let l = c.take_out-state.result in
-    let q = c.args.«package».now in
-    let p = c.take_out-state.new.self in
-    let d : DidTakeOut c.args.released.lock c.take_out-state.result c.args.«package».now c.take_out-state.new.self = record { was = c.take_out-state.ensures.lock; is = c.take_out-state.ensures.is; locks = c.take_out-state.ensures.locks; rest = c.take_out-state.ensures.rest } in
+    let d = took_released c.args.hall.now.terms c.args.parts.now.pass.knows c.args.released.lock c.args.released.block.now c.take_out-state.result c.args.«package».now c.take_out-state.new.self c.keeps.ensures.sound c.requires.may.release c.take_out-state.ensures.lock c.take_out-state.ensures.is c.take_out-state.ensures.locks c.take_out-state.ensures.rest in
     let own : Turn = record { thread = c.thread.result; number = c.number_of.result } in
-    let held : has q.context.guest.held i ≡ false = released_free c.args.«package».now c.args.released.block.now c.args.released.lock c.keeps.ensures.sound c.requires.may.release.last c.requires.may.release.released in
-    let none = c.requires.may.release.granted in
     let e = c.in-Next.ensures {u = tt} in
-    let thread = block_thread c.args.«package».now c.args.released.block.now c.keeps.ensures.sound c.requires.may.release.last in
-    c.grant_next.ensures.lines p (turn_in q i) (ap (λ (x : PackageView). x.context.thread) d.is ∙ sym thread)
-    (followed_by k c.args.parts.now.pass c.find_next.new.pass i l own c.in-Next.next q p d held none c.requires.lines (e.so i c.requires.line.1) e.acts c.requires.may.parts.at.out)
+    c.grant_next.ensures.lines c.take_out-state.new.self (turn_in c.args.«package».now c.args.released.lock) (ap (λ (x : PackageView). x.context.thread) d.out.is ∙ sym d.thread)
+    (followed_by c.args.hall.now.terms c.args.parts.now.pass c.find_next.new.pass c.args.released.lock c.take_out-state.result own c.in-Next.next c.args.«package».now c.take_out-state.new.self d.out d.held d.none c.requires.lines (e.so c.args.released.lock c.requires.line.1) e.acts c.requires.may.parts.at.out)
 
 pub returns-in-Nobody-clause-lines : goal.returns-in-Nobody-clause-lines
 returns-in-Nobody-clause-lines g c =
-    let i = c.args.released.lock in
-    let k = c.args.hall.now.terms in
-    let v = c.args.parts.now.pass.knows in
-    let w = c.find_next.new.pass.knows in
-    let l = c.take_out-state.result in
-    let q = c.args.«package».now in
-    let p = c.take_out-state.new.self in
-    let d : DidTakeOut c.args.released.lock c.take_out-state.result c.args.«package».now c.take_out-state.new.self = record { was = c.take_out-state.ensures.lock; is = c.take_out-state.ensures.is; locks = c.take_out-state.ensures.locks; rest = c.take_out-state.ensures.rest } in
+    let d = took_released c.args.hall.now.terms c.args.parts.now.pass.knows c.args.released.lock c.args.released.block.now c.take_out-state.result c.args.«package».now c.take_out-state.new.self c.keeps.ensures.sound c.requires.may.release c.take_out-state.ensures.lock c.take_out-state.ensures.is c.take_out-state.ensures.locks c.take_out-state.ensures.rest in
     let own : Turn = record { thread = c.thread.result; number = c.number_of.result } in
-    let held : has q.context.guest.held i ≡ false = released_free c.args.«package».now c.args.released.block.now c.args.released.lock c.keeps.ensures.sound c.requires.may.release.last c.requires.may.release.released in
-    let none = c.requires.may.release.granted in
-    free_lines k v w i l own q p d held none c.requires.lines ((c.in-Nobody.ensures {u = tt}).so i c.requires.line.1) c.free.new.pass.knows c.free.ensures.told
+    free_lines c.args.hall.now.terms c.args.parts.now.pass.knows c.find_next.new.pass.knows c.args.released.lock c.take_out-state.result own c.args.«package».now c.take_out-state.new.self d.out d.held d.none c.requires.lines ((c.in-Nobody.ensures {u = tt}).so c.args.released.lock c.requires.line.1) c.free.new.pass.knows c.free.ensures.told
 
 pub returns-in-Stopped-clause-lines : goal.returns-in-Stopped-clause-lines
 returns-in-Stopped-clause-lines g c = stop_later c.find_next.new.pass.knows c.free-in-Stopped.new.pass.knows (Free c.take_out-state.result.number ∷ []) c.free-in-Stopped.ensures.told ((c.in-Stopped.ensures {u = tt}).so c.args.released.lock c.requires.line.1).0
