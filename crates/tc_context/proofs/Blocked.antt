@@ -1,10 +1,10 @@
 -- A whole block: from journals at rest to journals with an entry more.
-use Rattle.tc_context.proofs.Vocabulary.{◌≡◌, ℕ, ◌≤◌, arith, Bool, true, false, List, refl, sym, ap, subst, ◌∙◌, Option, Some, None, is_some, option_map, has, MAX_TURNS, Shown, is_section, ends_thread, Block, Thread, Mutex, next_lock, LockView, Journal, Opened, Closes, lock_of, with_journal, opened_at, noted, entry_from, closed_with, lock_in}
-use Rattle.tc_context.proofs.Vocabulary.{mutex_of, mutex_or, when_in, Changed, EachLock, IsReady, IsUnsealed, shut, Entry, Replays, replay_entry, ended, unowned, map_some, some_of, Registers, State, locks_of_block, reach, Runs, IsRecord, replays, replay_is, block_broken, slept_at, End, Kind, Agree, Apart, agree_at, apart_at, covers_at, covers_block, DidTurns, MayRunBlock, opened_in, Context}
-use Rattle.tc_context.proofs.Vocabulary.{thread_in, mutex_at, whole, set_of, journal_in, journal_at, Keeps, CanGo, RunsAs, block_locks, entry_of, with_entry, entered, Journals, noted_when, words_of, MayTurn}
+use Rattle.tc_context.proofs.Vocabulary.{◌≡◌, ℕ, arith, Bool, true, false, List, refl, sym, ap, subst, ◌∙◌, Option, Some, None, is_some, option_map, has, MAX_TURNS, Shown, is_section, ends_thread, Block, Thread, Mutex, next_lock, LockView, Journal, Opened, Closes, lock_of, with_journal, opened_at, noted, entry_from, closed_with, lock_in}
+use Rattle.tc_context.proofs.Vocabulary.{mutex_of, mutex_or, when_in, Changed, EachLock, IsReady, IsUnsealed, shut, Entry, Replays, replay_entry, ended, unowned, Registers, State, locks_of_block, reach, Runs, IsRecord, replays, replay_is, block_broken, slept_at, End, Kind, Agree, Apart, agree_at, apart_at, DidTurns, MayRunBlock, opened_in, Context}
+use Rattle.tc_context.proofs.Vocabulary.{thread_in, mutex_at, whole, journal_at, Keeps, CanGo, RunsAs, block_locks, entry_of, with_entry, entered, Journals, noted_when, words_of, MayTurn}
 use Rattle.tc_context.specs.declared.context.Turns.{Turns}
-use Rattle.tc_context.proofs.LockList.{mapped_at, when_field, with_locks}
-use Rattle.tc_context.proofs.Moved.{identifies_when, keeps_changed, journals_changed, mutexes_same}
+use Rattle.tc_context.proofs.LockList.{mapped_at, with_locks}
+use Rattle.tc_context.proofs.Moved.{journals_changed}
 use Rattle.tc_context.proofs.Partway.{keeps_all}
 
 -- the two packages are the same part of the machine
@@ -42,31 +42,15 @@ runs_to image a b c turns end same runs = record {
 
 same_part : (p : Context) (f : ℕ → LockView → LockView) (locks : List (Option LockView)) → ((k : ℕ) (l : LockView) → ((f k l).number ≡ l.number) × ((f k l).journal.image ≡ l.journal.image)) → Changed f p.locks locks
     → ((t k : ℕ) (b : Bool) (l : LockView) → lock_in p.locks k ≡ Some l → mutex_of t b (f k l) ≡ mutex_of t b l) → SamePart p (with_locks p locks)
-same_part p f locks identifies changed each =
-    let h : (k : ℕ) → mutex_at (with_locks p locks) k ≡ mutex_at p k = mutexes_same f p (with_locks p locks) changed refl (λ k. refl) each in
-    record {
-      keeps = keeps_changed f p (with_locks p locks) identifies changed refl;
-      machine = λ i. record { threads = λ k. thread_in p; locks = λ k. h k i };
-    }
+same_part p f locks identifies changed each = grind arith
 
 -- the record of a package's next block has its held set and its kind
 pub record_is : (image : Shown) (p : Context) (b : Block) → CanGo image p → ((k : ℕ) → has b.held k ≡ block_locks image p k) → is_section b.kind ≡ is_some (next_lock image (thread_in p)) → IsRecord image (whole p) b
-record_is image p b go held section = record {
-  few = go.guards;
-  small = λ k h. (let l = some_of (lock_in p.locks k) (go.covers.held k h) in let known = (go.of k l.0 l.1).known in let few = go.guards in omega (arith, known, few));
-  held = held;
-  section = section;
-}
+record_is image p b go held section = grind arith
 
 -- in a journal that is ready no entry is open, and none is closed
 not_closed : (b : Block) (regs : Registers) (j : Journal) → IsReady j → closed_with b regs j ≡ j
-not_closed b regs j ready =
-    λ i. record { image = j.image; limit = j.limit; strict = j.strict; sealed = j.sealed; closed = (ap (option_map (entry_from b regs)) ready.opened ∙ sym ready.closed) i; opened = (sym ready.opened) i; entry_room = j.entry_room; word_room = j.word_room }
-
--- a change of the journal alone
-journal_when : (b : Bool) (f : Journal → Journal) (g : LockView → LockView) (l : LockView) → (g l).journal ≡ f l.journal → (when_in b g l).journal ≡ when_in b f l.journal
-journal_when true f g l e = e
-journal_when false f g l e = refl
+not_closed b regs j ready = grind arith
 
 -- the entries of the next block are open, and these are its locks
 pub record Begins (image : Shown) (old : Context) (held : ℕ) (locks : List (Option LockView)) : Type 0 where
@@ -75,50 +59,28 @@ pub record Begins (image : Shown) (old : Context) (held : ℕ) (locks : List (Op
 
 pub begins_from : (image : Shown) (old : Context) (held : ℕ) (locks : List (Option LockView)) {was fuel : ℕ} {takes : Option ℕ} {regs : Registers} → takes ≡ next_lock image (thread_in old) → was ≡ old.guest.held → regs ≡ old.guest.regs → fuel ≡ old.guest.fuel
     → ((k : ℕ) → has held k ≡ locks_of_block (has was) takes k) → Changed (opened_in (locks_of_block (has was) takes) regs fuel) old.locks locks → Begins image old held locks
-begins_from image old held locks {was} {fuel} {takes} {regs} next before start left is opens = record {
-  is = λ k. is k ∙ (λ i. locks_of_block (has (before i)) (next i) k);
-  opens = λ k.
-      subst (λ (x : Registers × ℕ). Changed (opened_in (locks_of_block (has was) takes) x.0 x.1) old.locks locks) (λ i. (start i, left i)) opens k
-      ∙ ap (λ b. option_map (λ l. when_in b (with_journal (opened_at (lock_of l) old.guest.regs old.guest.fuel)) l) (lock_in old.locks k)) (sym (is k));
-}
+begins_from image old held locks {was} {fuel} {takes} {regs} next before start left is opens = grind arith
 
 module _ {image decoded : Shown} {kind : Kind} {takes : Option ℕ} {old : Context} (may : MayRunBlock image decoded kind takes old) {held : ℕ} {locks : List (Option LockView)} (begins : Begins image old held locks) where
   abbrev pub begun : Context
   begun = with_locks old locks
 
   begun_part : SamePart old begun
-  begun_part = same_part old (opened_in (has held) old.guest.regs old.guest.fuel) locks
-      (λ k l. identifies_when (has held k) (with_journal (opened_at (lock_of l) old.guest.regs old.guest.fuel)) l refl refl) begins.opens
-      (λ t k b l e. when_field (mutex_of t b) (has held k) (with_journal (opened_at (lock_of l) old.guest.regs old.guest.fuel)) l refl)
+  begun_part = grind arith
 
   abbrev opening : ℕ → Journal → Journal
   opening k = when_in (has held k) (opened_at (unowned (mutex_at old k)) old.guest.regs old.guest.fuel)
 
   begun_journals : (k : ℕ) → journal_at begun k ≡ option_map (opening k) (journal_at old k)
-  begun_journals = journals_changed (opened_in (has held) old.guest.regs old.guest.fuel) opening old begun begins.opens
-      (λ k l found. journal_when (has held k) (opened_at (unowned (mutex_at old k)) old.guest.regs old.guest.fuel) (with_journal (opened_at (lock_of l) old.guest.regs old.guest.fuel)) l
-      (ap (λ o. opened_at (unowned (mutex_or old.thread (has old.guest.held k) o)) old.guest.regs old.guest.fuel l.journal) (sym found)))
+  begun_journals = grind arith
 
   -- the journal of a lock of the block as it was, and as it is begun
   begun_was : (k : ℕ) (j : Journal) → journal_at begun k ≡ Some j → has held k ≡ true → (x : Journal) × (journal_at old k ≡ Some x) × (j ≡ opened_at (unowned (mutex_at old k)) old.guest.regs old.guest.fuel x)
-  begun_was k j at h =
-      let was = map_some (opening k) (journal_at old k) j (sym (begun_journals k) ∙ at) in
-      (was.0, was.1, was.2 ∙ ap (λ v. when_in v (opened_at (unowned (mutex_at old k)) old.guest.regs old.guest.fuel) was.0) h)
+  begun_was k j at h = grind arith
 
   -- so its turns may come
   pub begun_may : MayTurn image (has held) MAX_TURNS begun
-  begun_may = record {
-    go = record {
-      guards = may.go.guards;
-      thread = may.go.thread;
-      running = may.go.running;
-      of = begun_part.keeps.of image may.go.of;
-      covers = covers_at image (set_of old) (set_of begun) (thread_in old) (λ k. sym (begun_part.keeps.set k)) may.go.covers;
-    };
-    covers = covers_at image (block_locks image old) (has held) (thread_in old) (λ k. sym (begins.is k)) (covers_block image (thread_in old));
-    opened = λ k j at h. ap (λ (i : Journal). is_some i.opened) (begun_was k j at h).2;
-    room = λ k j at h. (let w = begun_was k j at h in subst (λ n. MAX_TURNS ≤ n) (sym (ap (λ (i : Journal). i.word_room) w.2)) (may.ready k w.0 w.1).words);
-  }
+  begun_may = grind (arith, begun_was)
 
   module _ (pc : ℕ) {ran : Context} {t : Turns} (did : DidTurns image (has held) begun ran t) where
     abbrev pub made : Block
@@ -153,16 +115,11 @@ module _ {image decoded : Shown} {kind : Kind} {takes : Option ℕ} {old : Conte
 
     -- the journal of each lock, as it was before the block and is at its end
     was_noted : (k : ℕ) (l : LockView) → lock_in ran.locks k ≡ Some l → (j : Journal) × (journal_at old k ≡ Some j) × (l.journal ≡ noted_when (has held k) (words k) (opening k j))
-    was_noted k l found =
-        let a = map_some (noted_when (has held k) (words k)) (journal_at begun k) l.journal (sym (did.journals k) ∙ ap (option_map journal_in) found) in
-        let b = map_some (opening k) (journal_at old k) a.0 (sym (begun_journals k) ∙ a.1) in
-        (b.0, b.1, a.2 ∙ ap (noted_when (has held k) (words k)) b.2)
+    was_noted k l found = grind (arith, begun_journals)
 
     was_ready : (k : ℕ) (l : LockView) → lock_in ran.locks k ≡ Some l → has held k ≡ true
         → (j : Journal) × (journal_at old k ≡ Some j) × (l.journal ≡ noted (words k) (opened_at (unowned (mutex_at old k)) old.guest.regs old.guest.fuel j))
-    was_ready k l found h =
-        let w = was_noted k l found in
-        (w.0, w.1, w.2 ∙ ap (λ v. noted_when v (words k) (when_in v (opened_at (unowned (mutex_at old k)) old.guest.regs old.guest.fuel) w.0)) h)
+    was_ready k l found h = grind arith
 
     -- the lock as the machine has it at the block's end
     lock_is : (k : ℕ) (l : LockView) → lock_in ran.locks k ≡ Some l → has held k ≡ true → unowned ((reach image (whole old) old.thread t.count).locks k) ≡ lock_of l
@@ -192,8 +149,7 @@ module _ {image decoded : Shown} {kind : Kind} {takes : Option ℕ} {old : Conte
         let w = was_noted k l found in
         let ready = may.ready k w.0 w.1 in
         record {
-          closed = ap (λ (x : Journal). x.closed) w.2 ∙ when_field (λ (x : Journal). x.closed) (has held k) (noted (words k)) (opening k w.0) refl
-              ∙ when_field (λ (x : Journal). x.closed) (has held k) (opened_at (unowned (mutex_at old k)) old.guest.regs old.guest.fuel) w.0 refl ∙ ready.closed;
+          closed = (grind arith);
           others = λ out. ap (λ (x : Journal). x.opened) (w.2 ∙ ap (λ v. noted_when v (words k) (when_in v (opened_at (unowned (mutex_at old k)) old.guest.regs old.guest.fuel) w.0)) out) ∙ ready.opened;
           opened = λ h. ap (λ (x : Journal). is_some x.opened) (was_ready k l found h).2;
           ended = is_broken k l found;

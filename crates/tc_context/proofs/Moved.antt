@@ -1,7 +1,7 @@
 -- One turn of a package: what its thread and its locks are after it, and the words that its journals note.
-use Rattle.std.proofs.Common.{◌≡◌, ℕ, ◌≤◌, Bool, true, false, not, ◌||◌, ◌&&◌, ◌==◌, List, length, refl, sym, ap, subst, ◌∙◌, arith, [], ◌∷◌, ◌++◌, Option, Some, None, is_some, if◌then◌else◌, IfSome}
-use Rattle.tc_context.proofs.Vocabulary.{option_map, has, Shown, guard_at, Thread, act_with, thread_after, mutex_after, guard_with, given_up, when, taken, released, Mutex, next_lock, answer_to, LockView, Journal, guard_of, with_store, with_section, with_break, with_journal, noted, lock_in, mutex_of, mutex_or, IsLockOf, takes_word, word_of, words_now, in_guard, Region, done_of, wants_of, IsAct}
-use Rattle.tc_context.proofs.Vocabulary.{IsPut, Put, Want, Covers, next_act, act_some, act_takes, next_known, Act, Done, DoneFits, put_number, AreOf, when_in, stored_in, turned, TurnReady, StoreReady, TurnFits, StoreFits, Changed, noted_in, Context, mutex_at, journal_in, journal_at, Keeps, thread_in, set_of, act_in, noted_when, IsTurn, AreOpen, DidTurn, Lock, Unlock, Exit, Sleep, Nothing}
+use Rattle.std.proofs.Common.{◌≡◌, ℕ, ◌≤◌, Bool, true, false, ◌&&◌, ◌==◌, List, length, refl, sym, ap, subst, ◌∙◌, arith, [], ◌∷◌, ◌++◌, Option, Some, None, is_some, if◌then◌else◌, IfSome}
+use Rattle.tc_context.proofs.Vocabulary.{option_map, has, Shown, Thread, act_with, thread_after, mutex_after, next_lock, answer_to, LockView, Journal, with_journal, noted, lock_in, mutex_or, IsLockOf, takes_word, word_of, words_now, Region, done_of, wants_of, IsAct}
+use Rattle.tc_context.proofs.Vocabulary.{IsPut, Put, Want, Covers, next_act, act_some, act_takes, next_known, Act, Done, DoneFits, AreOf, when_in, turned, TurnReady, StoreReady, TurnFits, StoreFits, Changed, noted_in, Context, mutex_at, journal_in, journal_at, Keeps, thread_in, set_of, act_in, noted_when, IsTurn, AreOpen, DidTurn, Lock, Exit, Nothing}
 use Rattle.tc_exec.proofs.Cases.{act_told}
 use Rattle.tc_exec.proofs.Laws.{put_is_held}
 use Rattle.tc_exec.specs.declared.outcome.Act.TheVariants.{Next, Called, Faulted}
@@ -11,11 +11,8 @@ use Rattle.tc_context.proofs.LockList.{when_field, unchanged}
 use Rattle.tc_segment.proofs.Inside.{guard_has}
 use Rattle.tc_segment.proofs.Words.{noted_nil, noted_more, more_some}
 use Rattle.tc_elf.specs.declared.image.Region.TheVariants as region
-use Rattle.tc_exec.specs.declared.outcome.Done.TheVariants as done
 
--- ---- a change of each lock, seen as a change of what the package has
-
--- it leaves which lock it is
+-- a change of each lock leaves which lock it is
 abbrev pub Identifies : (ℕ → LockView → LockView) → Type 0
 Identifies f = (k : ℕ) (l : LockView) → ((f k l).number ≡ l.number) × ((f k l).journal.image ≡ l.journal.image)
 
@@ -23,95 +20,25 @@ pub identifies_when : (b : Bool) (f : LockView → LockView) (l : LockView) → 
 identifies_when b f l p q = (when_field (λ x. x.number) b f l p, when_field (λ x. x.journal.image) b f l q)
 
 pub of_changed : (f : ℕ → LockView → LockView) (old new : List (Option LockView)) → Identifies f → Changed f old new → (image : Shown) → AreOf image old → AreOf image new
-of_changed f old new same changed image of k l found =
-    let x = map_some (f k) (lock_in old k) l (sym (changed k) ∙ found) in
-    let was = of k x.0 x.1 in
-    let s = same k x.0 in
-    record {
-      number = ap (λ (y : LockView). y.number) x.2 ∙ s.0 ∙ was.number;
-      known = was.known;
-      of = ap (λ (y : LockView). y.journal.image) x.2 ∙ s.1 ∙ was.of;
-    }
+of_changed f old new same changed image of k l found = grind arith
 
 pub keeps_changed : (f : ℕ → LockView → LockView) (old new : Context) → Identifies f → Changed f old.locks new.locks → new.thread ≡ old.thread → Keeps old new
-keeps_changed f old new same changed thread = record {
-  thread = thread;
-  set = λ k. ap is_some (changed k) ∙ some_map (f k) (lock_in old.locks k);
-  of = of_changed f old.locks new.locks same changed;
-}
+keeps_changed f old new same changed thread = record { thread = thread; set = λ k. ap is_some (changed k) ∙ some_map (f k) (lock_in old.locks k); of = of_changed f old.locks new.locks same changed }
 
 pub journals_changed : (f : ℕ → LockView → LockView) (g : ℕ → Journal → Journal) (old new : Context) → Changed f old.locks new.locks
     → ((k : ℕ) (l : LockView) → lock_in old.locks k ≡ Some l → (f k l).journal ≡ g k l.journal) → (k : ℕ) → journal_at new k ≡ option_map (g k) (journal_at old k)
-journals_changed f g old new changed each k =
-    ap (option_map journal_in) (changed k) ∙ (elim (lock_in old.locks k) as (λ o. lock_in old.locks k ≡ o → option_map journal_in (option_map (f k) o) ≡ option_map (g k) (option_map journal_in o)) [ None ↦ λ e. refl | Some l ↦ λ e. ap Some (each k l e) ]) refl
-
-pub mutexes_same : (f : ℕ → LockView → LockView) (old new : Context) → Changed f old.locks new.locks → new.thread ≡ old.thread → ((k : ℕ) → has new.guest.held k ≡ has old.guest.held k)
-    → ((t k : ℕ) (b : Bool) (l : LockView) → lock_in old.locks k ≡ Some l → mutex_of t b (f k l) ≡ mutex_of t b l) → (k : ℕ) → mutex_at new k ≡ mutex_at old k
-mutexes_same f old new changed thread held each k =
-    let held_was = has old.guest.held k in
-    (λ i. mutex_or (thread i) (held k i) (changed k i))
-    ∙ (elim (lock_in old.locks k) as (λ o. lock_in old.locks k ≡ o → mutex_or old.thread held_was (option_map (f k) o) ≡ mutex_or old.thread held_was o) [ None ↦ λ e. refl | Some l ↦ each old.thread k held_was l ]) refl
-
--- ---- a turn
-
-when_mutex : (t : ℕ) (b v : Bool) (f : LockView → LockView) (l : LockView) (m : Mutex) → mutex_of t b (f l) ≡ m → mutex_of t b (when_in v f l) ≡ when v m (mutex_of t b l)
-when_mutex t b true f l m e = e
-when_mutex t b false f l m e = refl
-
-stored_mutex : (image : Shown) (t k : ℕ) (b : Bool) (place : Region) (addr width value : ℕ) (l : LockView) → IsLockOf image k l
-    → mutex_of t b (stored_in place k addr width value l) ≡ guard_with image place k (mutex_of t b l) addr width value
-stored_mutex image t k b (region.Guard lock) addr width value l of = when_mutex t b (k == lock) (with_store addr width value) l _ (λ i. record (mutex_of t b l) { bytes = put_number (guard_at (of.of i) (of.number i)).start l.bytes addr width value })
-stored_mutex image t k b _ addr width value l of = refl
-
-broken_mutex : (t : ℕ) (b : Bool) (l : LockView) → mutex_of t false (when_in b with_break l) ≡ given_up b (mutex_of t b l)
-broken_mutex t true l = refl
-broken_mutex t false l = refl
-
-taken_mutex : (t : ℕ) (b v : Bool) (l : LockView) → mutex_of t (v || b) (when_in v with_section l) ≡ when v (taken t (mutex_of t b l)) (mutex_of t b l)
-taken_mutex t b true l = refl
-taken_mutex t b false l = refl
-
-released_mutex : (t : ℕ) (b v : Bool) (l : LockView) → mutex_of t (not v && b) l ≡ when v (released (mutex_of t b l)) (mutex_of t b l)
-released_mutex t b true l = refl
-released_mutex t b false l = refl
-
-pub turned_mutex : (image : Shown) (t k : ℕ) (d : Thread) (a : Option Act) (l : LockView) → IsLockOf image k l
-    → mutex_of t ((thread_after d a).held k) (turned d.held (option_map done_of a) k l) ≡ mutex_after image t d.held a k (mutex_of t (d.held k) l)
-turned_mutex image t k d (Some (Next regs (Some put))) l of = stored_mutex image t k (d.held k) put.region put.addr put.width put.value l of
-turned_mutex image t k d (Some (Called (Lock lock) regs)) l of = taken_mutex t (d.held k) (k == lock) l
-turned_mutex image t k d (Some (Called (Unlock lock) regs)) l of = released_mutex t (d.held k) (k == lock) l
-turned_mutex image t k d (Some (Next regs None)) l of = refl
-turned_mutex image t k d (Some (Called (Sleep n) regs)) l of = refl
-turned_mutex image t k d _ l of = broken_mutex t (d.held k) l
+journals_changed f g old new changed each k = grind arith
 
 abbrev IsSame : LockView → LockView → Type 0
 IsSame l x = (x.number ≡ l.number) × (x.journal ≡ l.journal)
 
-same_when : (b : Bool) (f : LockView → LockView) (l : LockView) → IsSame l (f l) → IsSame l (when_in b f l)
-same_when b f l e = (when_field (λ x. x.number) b f l e.0, when_field (λ x. x.journal) b f l e.1)
-
-same_stored : (place : Region) (k addr width value : ℕ) (l : LockView) → IsSame l (stored_in place k addr width value l)
-same_stored (region.Guard lock) k addr width value l = same_when (k == lock) (with_store addr width value) l (refl, refl)
-same_stored _ k addr width value l = (refl, refl)
-
 pub same_turned : (held : ℕ → Bool) (a : Option Done) (k : ℕ) (l : LockView) → IsSame l (turned held a k l)
-same_turned held None k l = same_when (held k) with_break l (refl, refl)
-same_turned held (Some (done.Stored put)) k l = same_stored put.region k put.addr put.width put.value l
-same_turned held (Some (done.Called (Lock lock))) k l = same_when (k == lock) with_section l (refl, refl)
-same_turned held (Some (done.Called Exit)) k l = same_when (held k) with_break l (refl, refl)
-same_turned held (Some (done.Faulted f)) k l = same_when (held k) with_break l (refl, refl)
-same_turned held _ k l = (refl, refl)
+same_turned held a k l = grind arith
 
--- ---- what a turn asks of the locks
-
+-- what a turn asks of the locks
 put_ready : (image : Shown) (held : ℕ → Bool) (put : Put) (place : Region) (k : ℕ) (l : LockView) → put.region ≡ place → IsPut image held put → IsLockOf image k l
     → (held k ≡ true → is_some l.journal.opened ≡ true) → ((lock : ℕ) → put.region ≡ region.Guard lock → held lock ≡ true) → StoreReady place k put.addr put.width l
-put_ready image held put (region.Guard lock) k l e is of opened holds = λ same.
-    let here : guard_of l ≡ guard_at image lock = (λ i. guard_at (of.of i) (of.number i)) ∙ ap (guard_at image) same in (
-      ap (in_guard put.addr put.width) here ∙ (guard_has image lock put.addr put.width (sym is.lies ∙ e)).inside,
-      opened (ap held same ∙ holds lock e),
-    )
-put_ready image held put _ k l e is of opened holds = tt
+put_ready image held put place k l e is of opened holds = grind (arith, guard_has)
 
 pub turn_ready : (image : Shown) (block : ℕ → Bool) (d : Thread) (answer : ℕ) (a : Option Act) → act_with image d answer ≡ a → Covers image block d
     → (k : ℕ) (l : LockView) → IsLockOf image k l → (block k ≡ true → is_some l.journal.opened ≡ true) → TurnReady d.held (option_map done_of a) k l
@@ -135,28 +62,22 @@ turn_fits image d answer (Some (Next regs (Some put))) e few =
 turn_fits image d answer (Some (Called (Lock lock) regs)) e few = (let known = next_known image d lock (act_takes image d answer lock regs e) in omega (arith, known, few))
 turn_fits image d answer _ e few = tt
 
--- ---- the words of a turn, noted in the journals
-
+-- words noted in a journal
 pub when_nil : (b : Bool) (j : Journal) → noted_when b [] j ≡ j
 when_nil b j = when_field (λ x. x) b (noted []) j (noted_nil j)
 
 pub when_more : (b : Bool) (ws vs : List ℕ) (j : Journal) → noted_when b vs (noted_when b ws j) ≡ noted_when b (ws ++ vs) j
-when_more true ws vs j = noted_more ws vs j
-when_more false ws vs j = refl
+when_more b ws vs j = grind (arith, noted_more)
 
 pub when_open : (b : Bool) (ws : List ℕ) (j : Journal) → is_some (noted_when b ws j).opened ≡ is_some j.opened
 when_open b ws j = when_field (λ x. is_some x.opened) b (noted ws) j (more_some ws j.opened)
 
--- ---- one turn
-
+-- the word of a turn, noted where there is one
 noted_journal : (spent b t : Bool) (value : ℕ) (l : LockView) → (when_in ((if spent then false else b) && t) (with_journal (noted (value ∷ []))) l).journal ≡ noted_when b (if spent then [] else (if t then value ∷ [] else [])) l.journal
-noted_journal true b t value l = sym (when_nil b l.journal)
-noted_journal false true false value l = sym (noted_nil l.journal)
-noted_journal false _ _ value l = refl
+noted_journal spent b t value l = grind (arith, noted_nil)
 
 pub noting_block : (spent b n : Bool) → n ≡ (if spent then false else b) → n ≡ true → b ≡ true
-noting_block true b n e h = absurd (cc)
-noting_block false b n e h = sym e ∙ h
+noting_block spent b n e h = grind arith
 
 same_lock : (noting : ℕ → Bool) (wanted : Want) (next : Option ℕ) (answer : ℕ) → Identifies (noted_in noting wanted next answer)
 same_lock noting wanted next answer k l = identifies_when (noting k && takes_word k wanted next) (with_journal (noted (answer ∷ []))) l refl refl
@@ -190,12 +111,7 @@ module _ (image : Shown) (block noting : ℕ → Bool) (old new : Context) (mid 
 
   mutex : AreOf image old.locks → (k : ℕ) → set_of old k ≡ true → (o : Option LockView) → lock_in old.locks k ≡ o
       → mutex_or old.thread ((thread_after (thread_in old) (act_in image old)).held k) (option_map (change k) o) ≡ mutex_after image old.thread held (act_in image old) k (mutex_or old.thread (held k) o)
-  mutex of k some None e = absurd (let g : is_some (lock_in old.locks k) ≡ false = ap is_some e in cc)
-  mutex of k some (Some l) e =
-      let m = same_lock noting wanted next answer k l in
-      let was = of k l e in
-      turned_mutex image old.thread k (thread_in old) (act_in image old) (note k l) (record { number = m.0 ∙ was.number; known = was.known; of = m.1 ∙ was.of })
-      ∙ ap (mutex_after image old.thread held (act_in image old) k) (when_field (mutex_of old.thread (held k)) (noting k && takes_word k wanted next) (with_journal (noted (answer ∷ []))) l refl)
+  mutex of k some o e = grind arith
 
   pub turn_from : AreOf image old.locks → wanted ≡ wants_of image held old.guest.regs → next ≡ next_lock image (thread_in old) → answer ≡ answer_to image wanted next (thread_in old).own (mutex_at old)
       → ((k : ℕ) → noting k ≡ (if old.guest.fuel == 0 then false else block k)) → Changed note old.locks mid → Changed (turned held did) mid new.locks → new.thread ≡ old.thread → thread_in new ≡ thread_after (thread_in old) (act_in image old) → IsTurn image block old new
@@ -215,11 +131,4 @@ module _ (image : Shown) (block noting : ℕ → Bool) (old new : Context) (mid 
       → ((k : ℕ) → noting k ≡ (if old.guest.fuel == 0 then false else block k)) → Changed note old.locks mid → n ≡ old.guest.held → d ≡ option_map done_of (act_with image (thread_in old) answer) → IfSome d DoneFits → Changed (turned (has n) d) mid new.locks
       → new.thread ≡ old.thread → thread_in new ≡ thread_after (thread_in old) (act_with image (thread_in old) answer) → DidTurn image block old new d
   unfolding next_act
-  did_turn n d of w x a notes first h e fits second number thread =
-      let act : act_with image (thread_in old) answer ≡ act_in image old = ap (act_with image (thread_in old)) (a ∙ (λ i. answer_to image (w i) (x i) (thread_in old).own (mutex_at old))) in
-      let done = e ∙ ap (option_map done_of) act in
-      record {
-        done = done;
-        fits = fits;
-        turn = turn_from of w x a notes first (subst (λ o. Changed (turned held o) mid new.locks) done (subst (λ m. Changed (turned (has m) d) mid new.locks) h second)) number (thread ∙ ap (thread_after (thread_in old)) act);
-      }
+  did_turn n d of w x a notes first h e fits second number thread = grind (arith, turn_from)

@@ -1,12 +1,11 @@
 -- A package in the middle of a block.
-use Rattle.tc_context.proofs.Vocabulary.{◌≡◌, ℕ, ◌+◌, ◌-◌, ◌<◌, ◌≤◌, Bool, true, false, ◌&&◌, ◌++◌, length, refl, sym, ap, subst, ◌∙◌, arith, add-one, zero, suc, Option, Some, None, nat_lt, is_some, if◌then◌else◌, option_map, has, MAX_TURNS, Shown, Thread, is_running, next_lock, outcome_of, LockView, Journal, lock_in, mutex_or, Context, thread_in, mutex_at, whole, set_of, journal_at, Keeps, CanGo}
-use Rattle.tc_context.proofs.Vocabulary.{block_locks, RunsAs, act_in, IsTurn, noted_when, words_of, AreOpen, HasRoom, AreNoted, GoesOn, MayTurn, nat_tests, word_of, word_short, words_short, word_same, map_some, option_map-id, option_map-twice, done_of, Covers, MayRun, next_free, covers_on, held_on, went_on, goes_on, State, is_free, is_open, can_turn, after, reach, Runs, words_next, end_done}
-use Rattle.tc_context.proofs.Vocabulary.{next_small, slept_by, slept_at, slept_in, End, Agree, after_thread, after_mutex, agree_trans, agree_at, covers_at, covers_block, runs_same, runs_apart, DidTurns, Act, Done, outcome_done, end_rule, DidTurn, Lock, Sleep}
+use Rattle.tc_context.proofs.Vocabulary.{◌≡◌, ℕ, ◌+◌, ◌-◌, ◌<◌, ◌≤◌, Bool, true, false, ◌++◌, refl, sym, ap, subst, ◌∙◌, arith, add-one, zero, suc, Option, Some, None, is_some, option_map, has, MAX_TURNS, Shown, Thread, next_lock, outcome_of, LockView, Journal, lock_in, mutex_or, Context, thread_in, mutex_at, whole, set_of, journal_at, Keeps, CanGo}
+use Rattle.tc_context.proofs.Vocabulary.{block_locks, RunsAs, act_in, IsTurn, noted_when, words_of, AreOpen, HasRoom, AreNoted, GoesOn, MayTurn, word_of, word_short, words_short, word_same, map_some, option_map-twice, done_of, Covers, MayRun, next_free, covers_on, held_on, went_on, goes_on, State, is_free, is_open, can_turn, after, reach, Runs, words_next, end_done}
+use Rattle.tc_context.proofs.Vocabulary.{next_small, slept_by, slept_at, slept_in, End, Agree, after_thread, after_mutex, agree_trans, agree_at, covers_at, covers_block, runs_same, runs_apart, DidTurns, Act, Done, outcome_done, end_rule, DidTurn, Lock}
 use Rattle.tc_turn.proofs.InPlace.{same_outcome}
 pub use Rattle.tc_mutex_spec.proofs.Going.{block_inside, no_cut}
-use Rattle.tc_mutex_spec.proofs.Within.{AreWithin, within_start, within_more, within_ends, IsTold, turn_told}
+use Rattle.tc_mutex_spec.proofs.Within.{AreWithin, within_more, within_ends, IsTold, turn_told}
 use Rattle.tc_context.proofs.Moved.{when_nil, when_more, when_open}
-use Rattle.tc_exec.specs.declared.outcome.Act.TheVariants.{Next, Called}
 use Rattle.tc_journal.specs.declared.rule.Outcome.{Outcome}
 use Rattle.tc_journal.specs.declared.rule.Outcome.TheVariants as outcome
 use Rattle.tc_exec.specs.declared.outcome.Done.TheVariants as done
@@ -24,15 +23,7 @@ pub keeps_all : (a b c : Context) → Keeps a b → Keeps b c → Keeps a c
 keeps_all a b c p q = record { thread = q.thread ∙ p.thread; set = λ k. q.set k ∙ p.set k; of = λ image of. q.of image (p.of image of) }
 
 pub partway_start : (image : Shown) (block : ℕ → Bool) (p : Context) → CanGo image p → Covers image block (thread_in p) → Partway image block p p 0
-partway_start image block p go covers = record {
-  short = omega arith;
-  keeps = record { thread = refl; set = λ k. refl; of = λ image of. of };
-  go = go;
-  agree = record { thread = refl; locks = λ k h. refl };
-  within = within_start image (whole p) p.thread;
-  covers = covers;
-  journals = λ k. sym (option_map-id (noted_when (block k) (words_of image p k 0)) (journal_at p k) (when_nil (block k)));
-}
+partway_start image block p go covers = grind (arith, when_nil)
 
 -- a package's next lock isn't held, so it has no owner there
 open_here : (image : Shown) (p : Context) (o : Option ℕ) → next_lock image (thread_in p) ≡ o → is_open o (mutex_at p) ≡ true
@@ -44,26 +35,19 @@ open_here image p (Some k) e =
 -- a package that can go takes a turn
 goes : (image : Shown) (p : Context) → CanGo image p → can_turn image (whole p) p.thread ≡ true
 unfolding can_turn
-goes image p go =
-    let lt : nat_lt p.thread (length image.entries) ≡ true = (let h = go.thread in grind (arith, nat_tests)) in
-    λ i. lt i && (is_running (go.running i) && open_here image p (next_lock image (thread_in p)) refl i)
+goes image p go = grind (arith, open_here)
 
 -- the turn leaves the machine's part as the package has it
 agree_moved : (image : Shown) (block : ℕ → Bool) (now new : Context) → IsTurn image block now new → Agree now.thread (set_of now) (after image (whole now) now.thread) (whole new)
-agree_moved image block now new turn = record {
-  thread = after_thread image (whole now) now.thread ∙ sym turn.thread;
-  locks = λ k h. after_mutex image (whole now) now.thread k ∙ sym (turn.locks k h);
-}
+agree_moved image block now new turn = record { thread = after_thread image (whole now) now.thread ∙ sym turn.thread; locks = λ k h. after_mutex image (whole now) now.thread k ∙ sym (turn.locks k h) }
 
 -- the same set covers the thread after a turn that ends no block
 covers_moved : (image : Shown) (set block : ℕ → Bool) (now new : Context) → Covers image set (thread_in now) → IsTurn image block now new → next_lock image (thread_in new) ≡ None → Covers image set (thread_in new)
-covers_moved image set block now new covers turn none =
-    subst (λ d. Covers image set d) (sym turn.thread) (covers_on image set (thread_in now) (mutex_at now) covers (ap (next_lock image) (sym turn.thread) ∙ none))
+covers_moved image set block now new covers turn none = grind (arith, covers_on)
 
 -- what isn't in the package before and after is none
 none_same : (t u : ℕ) (b c : Bool) (o p : Option LockView) → is_some o ≡ false → is_some p ≡ false → mutex_or u c p ≡ mutex_or t b o
-none_same t u b c None None e f = refl
-none_same t u b c _ _ e f = absurd (cc)
+none_same t u b c o p e f = grind arith
 
 module _ {image : Shown} {block : ℕ → Bool} {old now new : Context} {n : ℕ} (partway : Partway image block old now n) (turn : IsTurn image block now new) where
   -- a further turn, as the machine tells it
@@ -112,9 +96,7 @@ module _ {image : Shown} {block : ℕ → Bool} {old now new : Context} {n : ℕ
 
   -- and what its last turn slept for
   pub partway_slept : slept_by (option_map done_of (act_in image now)) ≡ slept_at image (whole old) old.thread (n + 1 - 1)
-  partway_slept =
-      let e : n ≡ n + 1 - 1 = omega arith in
-      ap (λ a. slept_by (option_map done_of a)) (sym further.acts) ∙ ap (slept_at image (whole old) old.thread) e
+  partway_slept = grind (arith, further)
 
   module _ {end : End} (ends : end_rule (outcome_of (act_in image now)) (n + 1) (next_lock image (thread_in new)) ≡ Some end) where
     abbrev t : ℕ
@@ -147,24 +129,14 @@ module _ {image : Shown} {block : ℕ → Bool} {old now new : Context} {n : ℕ
 pub runs_some : {image : Shown} {old new : Context} {n : ℕ} {e : End} → RunsAs image old new n e → 1 ≤ n
 runs_some {old = old} runs = (let some = (runs.block (whole old) (record { thread = refl; locks = λ k h. refl })).1.some in omega arith)
 
--- ---- the journals
-
+-- in the middle of a block, the journals have open entries and room
 module _ {image : Shown} {block : ℕ → Bool} {old now : Context} {n : ℕ} (may : MayTurn image block MAX_TURNS old) (partway : Partway image block old now n) where
   opened_here : AreOpen block now
-  opened_here k j at h =
-      let was = map_some (noted_when (block k) (words_of image old k n)) (journal_at old k) j (sym (partway.journals k) ∙ at) in
-      ap (λ (i : Journal). is_some i.opened) was.2 ∙ when_open (block k) (words_of image old k n) was.0 ∙ may.opened k was.0 was.1 h
+  opened_here k j at h = grind arith
 
   -- there is room for the words that are left
   room_here : HasRoom (MAX_TURNS - n) block now
-  room_here k j at h =
-      let ws = words_of image old k n in
-      let was = map_some (noted_when (block k) ws) (journal_at old k) j (sym (partway.journals k) ∙ at) in
-      let r : j.word_room ≡ was.0.word_room - length ws = ap (λ (i : Journal). i.word_room) was.2 ∙ ap (λ v. (noted_when v ws was.0).word_room) h ∙ ap (λ v. if v then was.0.word_room - length ws else was.0.word_room) (may.opened k was.0 was.1 h) in
-      let big = may.room k was.0 was.1 h in
-      let less : length ws ≤ n = words_short image k _ _ 0 n in
-      let short = partway.short in
-      omega (arith, r, big, less, short)
+  room_here k j at h = grind (arith, words_short)
 
   -- so turns may come
   pub run_here : MayRun image block (MAX_TURNS - n) now
@@ -173,12 +145,9 @@ module _ {image : Shown} {block : ℕ → Bool} {old now : Context} {n : ℕ} (m
   pub may_here : MayTurn image block 1 now
   may_here = record { go = partway.go; covers = partway.covers; opened = opened_here; room = λ k j at h. (let r = room_here k j at h in let short = partway.short in omega (arith, r, short)) }
 
--- ---- turns that go on
-
 -- a turn that ends no block went on
 went_by : (o : Outcome) (n : ℕ) (next : Option ℕ) → end_rule o n next ≡ None → o ≡ outcome.Went
-went_by outcome.Went n next e = refl
-went_by _ n next e = absurd (cc)
+went_by o n next e = grind arith
 
 -- a LOCK goes on
 pub went_lock : {image : Shown} {block : ℕ → Bool} {old new : Context} {lock : ℕ} → DidTurn image block old new (Some (done.Called (Lock lock))) → outcome_of (act_in image old) ≡ outcome.Went
@@ -194,12 +163,7 @@ may_more {image = image} {block = block} {old = old} {new = new} n may turn cove
       of = turn.keeps.of image may.of;
       held = λ k h. held_on image block (thread_in old) (mutex_at old) covers k (sym (ap (λ (d : Thread). d.held k) turn.thread) ∙ h);
       opened = λ k j at h. (let w = was k j at in ap (λ (i : Journal). is_some i.opened) w.2 ∙ when_open (block k) (words k) w.0 ∙ may.opened k w.0 w.1 h);
-      room = λ k j at h.
-          (let w = was k j at in
-          let r : j.word_room ≡ w.0.word_room - length (words k) = ap (λ (i : Journal). i.word_room) w.2 ∙ ap (λ v. (noted_when v (words k) w.0).word_room) h ∙ ap (λ v. if v then w.0.word_room - length (words k) else w.0.word_room) (may.opened k w.0 w.1 h) in
-          let big = may.room k w.0 w.1 h in
-          let less = word_short image k (thread_in old) (mutex_at old) in
-          omega (arith, r, big, less));
+      room = (grind (arith, word_short));
     }
 
 -- so many turns of a block were done, the last of which went on
@@ -217,8 +181,7 @@ module _ {image : Shown} {block : ℕ → Bool} {old : Context} (may : MayTurn i
 
   -- before the first turn no LOCK follows
   pub on_first : (n : ℕ) (now : Context) → IsOn image block old now n → n ≡ 0 → next_lock image (thread_in now) ≡ None
-  on_first zero now on none = ap (λ (p : Context). next_lock image (thread_in p)) on.0 ∙ on.1
-  on_first (suc n) now on none = absurd (omega (arith, none))
+  on_first n now on none = grind arith
 
   pub on_run : (c n : ℕ) (now new : Context) → IsOn image block old now c → c + n ≤ MAX_TURNS → GoesOn image block n now new → IsOn image block old new (c + n)
   on_run c zero now new on most goes = subst (λ (x : Context × ℕ). IsOn image block old x.0 x.1) (let e : c ≡ c + 0 = omega arith in λ i. (goes i, e i)) on
@@ -237,10 +200,7 @@ module _ {image : Shown} {block : ℕ → Bool} {old : Context} (may : MayTurn i
 
 -- a turn that goes on is no SLEEP
 pub sleeps_not : (a : Option Act) → outcome_of a ≡ outcome.Went → slept_by (option_map done_of a) ≡ 0
-sleeps_not (Some (Next next None)) e = refl
-sleeps_not (Some (Next next (Some put))) e = refl
-sleeps_not (Some (Called (Sleep blocks) next)) e = absurd (cc)
-sleeps_not _ e = refl
+sleeps_not a e = grind arith
 
 -- turns that went on end the block here
 pub on_ends : {image : Shown} {block : ℕ → Bool} {old now : Context} (n : ℕ) {lock : Option ℕ} (end : End) → MayTurn image block MAX_TURNS old → IsOn image block old now n → lock ≡ next_lock image (thread_in now) → end_rule outcome.Went n lock ≡ Some end
@@ -268,8 +228,7 @@ on_goes c n now new {lock = lock} may on goes most next rule =
     let free = went_on (c + n) lock rule in
     (on_free may (c + n) new (on_run may c n now new on most goes) (omega (arith, most, free.1)) (sym next ∙ free.0), free.0)
 
--- ---- a turn that is told
-
+-- a turn that is told
 module _ {image : Shown} {block : ℕ → Bool} {old now new : Context} {n : ℕ} {done : Option Done} {lock : Option ℕ} (partway : Partway image block old now n) (did : DidTurn image block now new done) (next : lock ≡ next_lock image (thread_in new)) where
   same_rule : end_rule (outcome_of (act_in image now)) (n + 1) (next_lock image (thread_in new)) ≡ end_rule (outcome_done done) (n + 1) lock
   same_rule = λ i. end_rule (sym (ap outcome_done did.done ∙ same_outcome (act_in image now)) i) (n + 1) (sym next i)

@@ -1,8 +1,8 @@
 -- What running a block makes of a package, and sealing it.
-use Rattle.tc_context.proofs.Vocabulary.{◌≡◌, ℕ, ◌-◌, ◌<◌, ◌≤◌, Bool, true, false, not, ◌||◌, ◌&&◌, ◌==◌, List, [], ◌∷◌, ◌++◌, map, length, refl, sym, ap, subst, ◌∙◌, inl, inr, set, arith, Option, Some, None, is_some, if◌then◌else◌, IfSome, slice_get, length-set, option_map, has, Shown, is_section, begins, is_lock, takes_of, last_of, may_go_on, ends_section, passes_to, Block, Thread, is_running}
-use Rattle.tc_context.proofs.Vocabulary.{next_lock, LockView, IsStrict, Journal, last_finish, block_in, blocks_of, with_journal, sealed_block, sealed_entry, sealed_list, sealed_as, eqb_tells, Entry, map_some, some_map, some_of, next_free, State, locks_of_block, reach, Runs, Grant, record_takes, block_survives, block_gives, block_inside, in_block, DidRun, slept_at, not-false, map-append}
-use Rattle.tc_context.proofs.Vocabulary.{length-map, slice_get_within, eq_self, Context, lock_in, AreOf, when_in, Changed, sealed_all, sealed_in, EachHeld, CanSeal, thread_in, whole, set_of, AreEnded, journal_in, journal_at, CanGo, RunsAs, entry_of, with_entry, entered, Journals, IsReady, AreReady, PackageView, granted_lock, kind_of, waiting_in, IsReserved, IsPending, IsStored, IsAfter, IsLeft}
-use Rattle.tc_context.proofs.Vocabulary.{IsGranted, MayTake, IsSoundPackage, Allows, fits_in, fits_granted, fits_of, WantIsGranted, IsIdle, IsAt, EndsWith, sealed_log, with_seal, Running, last_more, closes_sealed, EachLock, IsUnsealed, Opened, Registers, closed_all, closed_with, entry_from, sealed_with}
+use Rattle.tc_context.proofs.Vocabulary.{◌≡◌, ℕ, ◌-◌, ◌<◌, Bool, true, false, not, ◌||◌, ◌&&◌, List, [], ◌∷◌, ◌++◌, map, length, refl, sym, ap, subst, ◌∙◌, inl, inr, set, arith, Option, Some, None, is_some, if◌then◌else◌, length-set, option_map, has, Shown, is_section, begins, is_lock, takes_of, last_of, may_go_on, ends_section, Block, Thread, is_running}
+use Rattle.tc_context.proofs.Vocabulary.{next_lock, LockView, IsStrict, Journal, block_in, blocks_of, with_journal, sealed_block, sealed_as, Entry, map_some, some_map, next_free, State, locks_of_block, reach, Runs, record_takes, block_survives, block_gives, block_inside, in_block, DidRun, slept_at, map-append}
+use Rattle.tc_context.proofs.Vocabulary.{length-map, slice_get_within, eq_self, Context, lock_in, when_in, Changed, sealed_all, sealed_in, EachHeld, CanSeal, thread_in, whole, set_of, AreEnded, journal_in, CanGo, RunsAs, entry_of, with_entry, entered, Journals, IsReady, AreReady, PackageView, granted_lock, kind_of, waiting_in, IsReserved, IsPending, IsStored, IsAfter, IsLeft}
+use Rattle.tc_context.proofs.Vocabulary.{MayTake, IsSoundPackage, Allows, fits_in, fits_granted, fits_of, WantIsGranted, IsAt, EndsWith, sealed_log, with_seal, Running, last_more, closes_sealed, EachLock, IsUnsealed, Opened, Registers, closed_all, closed_with, entry_from, sealed_with}
 use Rattle.tc_journal.specs.Batch.{allows_of, passes_on, may_follow}
 use Rattle.tc_mutex_spec.proofs.Leaving.{block_runs, block_next, block_cut, block_releases, block_covered}
 use Rattle.tc_journal.specs.History.{IsBlock}
@@ -20,20 +20,17 @@ pub record MayRun (image : Shown) (p : PackageView) : Type 0 where
   pub want : WantIsGranted image p
 
 entered_stage : (b : Bool) (block : Block) (e : Entry) (i : Journal) → e.block ≡ block → i.opened ≡ None → option_map block_in i.closed ≡ None → (((entered b e i).opened ≡ None) × (option_map block_in (entered b e i).closed ≡ (if b then Some block else None)))
-entered_stage true block e i is o c = (refl, ap Some is)
-entered_stage false block e i is o c = (o, c)
+entered_stage b block e i is o c = grind arith
 
 pub entered_rest : (b : Bool) (e : Entry) (i : Journal) → ((entered b e i).sealed ≡ i.sealed) × ((entered b e i).limit ≡ i.limit) × ((entered b e i).strict ≡ i.strict)
 entered_rest b e i = (when_field (λ (j : Journal). j.sealed) b (with_entry e) i refl, when_field (λ (j : Journal). j.limit) b (with_entry e) i refl, when_field (λ (j : Journal). j.strict) b (with_entry e) i refl)
 
 -- a lock that isn't of the block wasn't held before it
 not_before : (held : ℕ → Bool) (next : Option ℕ) (k : ℕ) → locks_of_block held next k ≡ false → held k ≡ false
-not_before held None k out = out
-not_before held (Some lock) k out = (elim (k == lock) as (λ b. (b || held k) ≡ false → held k ≡ false) [ true ↦ λ e. absurd (cc) | false ↦ λ e. e ]) out
+not_before held next k out = grind arith
 
 begun_is : (o : Option ℕ) (k : ℕ) → is_lock o k ≡ true → o ≡ Some k
-begun_is None k h = absurd (cc)
-begun_is (Some lock) k h = elim (eqb_tells k lock) [ inl e ↦ ap Some (sym e.1) | inr e ↦ absurd (both_ways _ e.0 h) ]
+begun_is o k h = grind arith
 
 module _ (image : Shown) (p : PackageView) (m : MayRun image p) where
   abbrev takes : Option ℕ
@@ -41,9 +38,6 @@ module _ (image : Shown) (p : PackageView) (m : MayRun image p) where
 
   granted_next : (k : ℕ) → takes ≡ Some k → granted_lock p.granted ≡ Some k
   granted_next k next = m.want k (ap (λ s. if is_running s then takes else None) m.running ∙ next)
-
-  granted_as : (o : Option Grant) (g : Grant) → p.granted ≡ o → o ≡ Some g → IsGranted p.image p.context g
-  granted_as o g is e = subst (MayTake p.image p.context) (is ∙ e) m.sound.grant
 
   -- the locks of the block have rest and room
   pub ready_from : IsReserved p → AreReady p.context
@@ -58,30 +52,15 @@ module _ (image : Shown) (p : PackageView) (m : MayRun image p) where
       })
 
   pub can_go : CanGo image p.context
-  can_go = record {
-    guards = subst (λ (x : Shown). length x.guards ≤ 32) m.is m.sound.few;
-    thread = subst (λ (x : Shown). p.context.thread < length x.entries) m.is m.sound.thread;
-    running = m.running;
-    of = subst (λ x. AreOf x p.context.locks) m.is (are_of p m.sound);
-    covers = record { held = m.sound.held; next = λ k e. (let g = grant_of p.image p.context p.granted k m.sound.grant (granted_next k e) in subst (λ j. set_of p.context j ≡ true) g.2 g.3.here) };
-  }
+  can_go = grind (arith, are_of)
 
   -- the kind of a block tells whether it begins a section
   pub kind_section : is_section (kind_of p.granted p.log) ≡ is_some takes
-  kind_section = by p.granted p.log takes granted_next (λ g e. (let may = granted_as p.granted g refl e in (may.section, ap (λ x. next_lock x (thread_in p.context)) (sym m.is) ∙ may.next)))
-    where
-      by : (o : Option Grant) (log : List Block) (n : Option ℕ) → ((k : ℕ) → n ≡ Some k → granted_lock o ≡ Some k) → ((g : Grant) → o ≡ Some g → (is_section g.kind ≡ true) × (n ≡ Some g.lock)) → is_section (kind_of o log) ≡ is_some n
-      by (Some g) log n all may = (let r = may g refl in r.0 ∙ sym (ap is_some r.1))
-      by None [] None all may = refl
-      by None (b ∷ bs) None all may = refl
-      by None log (Some k) all may = absurd (let f : None ≡ Some k = all k refl in cc)
+  kind_section = grind arith
 
   -- a block that begins no section was granted nothing
   no_grant : is_section (kind_of p.granted p.log) ≡ false → kind_of p.granted p.log ≡ kind_of None p.log
-  no_grant out = (elim p.granted as (λ o. p.granted ≡ o → is_section (kind_of o p.log) ≡ false → kind_of o p.log ≡ kind_of None p.log) [
-    | None ↦ λ is none. refl
-    | Some g ↦ λ is none. absurd (both_ways _ none (granted_as (Some g) g is refl).section)
-  ]) refl out
+  no_grant out = grind arith
 
   module _ (new : Context) (b : Block) (log : List Block) (slept : ℕ) (places : length new.locks ≡ 32) (runs : RunsAs image p.context new b.turns b.end) (journals : Journals image p.context new b)
       (thread : b.thread ≡ p.context.thread) (kind : b.kind ≡ kind_of p.granted p.log) (logged : log ≡ p.log ++ b ∷ []) where
@@ -135,10 +114,7 @@ module _ (image : Shown) (p : PackageView) (m : MayRun image p) where
 
     -- lock k of the package as it was before
     was : (k : ℕ) (l : LockView) → lock_in new.locks k ≡ Some l → (x : LockView) × (lock_in p.context.locks k ≡ Some x) × (l.journal ≡ entered (has b.held k) (entry_of image k (whole p.context) b) x.journal)
-    was k l e =
-        let j = map_some (entered (has b.held k) (entry_of image k (whole p.context) b)) (journal_at p.context k) l.journal (sym (journals.entries k) ∙ ap (option_map journal_in) e) in
-        let x = map_some journal_in (lock_in p.context.locks k) j.0 j.1 in
-        (x.0, x.1, j.2 ∙ ap (entered (has b.held k) (entry_of image k (whole p.context) b)) x.2)
+    was k l e = grind arith
 
     sealed_was : (k : ℕ) (l x : LockView) → l.journal ≡ entered (has b.held k) (entry_of image k (whole p.context) b) x.journal → (l.journal.sealed ≡ x.journal.sealed) × (l.journal.limit ≡ x.journal.limit) × (l.journal.strict ≡ x.journal.strict)
     sealed_was k l x e = (let rest = entered_rest (has b.held k) (entry_of image k (whole p.context) b) x.journal in (ap (λ (j : Journal). j.sealed) e ∙ rest.0, ap (λ (j : Journal). j.limit) e ∙ rest.1, ap (λ (j : Journal). j.strict) e ∙ rest.2))
@@ -146,11 +122,7 @@ module _ (image : Shown) (p : PackageView) (m : MayRun image p) where
     -- a lock that was passed on was so by its grant
     passed : (k : ℕ) (x : LockView) → lock_in p.context.locks k ≡ Some x → IsStrict x → (w : Bool) → begins k b ≡ w → passes_on k (blocks_of x) b ≡ true
     unfolding passes_on
-    passed k x e strict false out = ap (λ w. if w then passes_to (last_of (blocks_of x)) b.kind b.thread else true) out
-    passed k x e strict true begun =
-        let g = grant_of p.image p.context p.granted k m.sound.grant (granted_next k (begun_next k begun)) in
-        ap (λ w. if w then passes_to (last_of (blocks_of x)) b.kind b.thread else true) begun
-        ∙ (λ i. passes_to (last_of (blocks_of x)) ((kind ∙ ap (λ o. kind_of o p.log) g.1) i) (thread i)) ∙ g.3.passes x (ap (lock_in p.context.locks) g.2 ∙ e) strict
+    passed k x e strict w out = grind (arith, begun_next)
 
     pending_at : (k : ℕ) (l x : LockView) → lock_in p.context.locks k ≡ Some x → l.journal.sealed ≡ x.journal.sealed → l.journal.strict ≡ x.journal.strict → IsPending b k l
     pending_at k l x e sealed same = record {
@@ -198,11 +170,7 @@ module _ (image : Shown) (p : PackageView) (m : MayRun image p) where
 
     -- the last entry of each lock that the thread still holds is the block's
     pub ran_ended : AreEnded new
-    ran_ended k l found h =
-        let x = was k l found in
-        let e = entry_of image k (whole p.context) b in
-        let entry : l.journal ≡ with_entry e x.0.journal = x.2 ∙ ap (λ v. entered v e x.0.journal) (held_locks k h) in
-        ap (λ (j : Journal). last_finish j.sealed j.closed) entry ∙ ap (λ n. Some ((reach image (whole p.context) n b.turns).threads n).regs) thread ∙ sym (ap (λ (d : Thread). Some d.regs) thread_is)
+    ran_ended k l found h = grind (arith, thread_is)
 
     -- a package that fits a worker runs a block that the batch rule allows with this worker
     fits_allows : (worker : ℕ) → fits_of p worker ≡ true → Allows new b worker
@@ -241,8 +209,6 @@ module _ (image : Shown) (p : PackageView) (m : MayRun image p) where
       room = refl;
     })
 
--- ---- the seal
-
 -- the pending block is the last of the log
 pub record IsLast (p : PackageView) : Type 0 where
   pub block : Block
@@ -251,15 +217,7 @@ pub record IsLast (p : PackageView) : Type 0 where
   pub some : 0 < length p.log
 
 pub pending_last : (p : PackageView) → IsSoundPackage p → is_some p.pending ≡ true → IsLast p
-pending_last p sound some =
-    let b = some_of p.pending some in
-    let last = subst (EndsWith p.log) b.1 sound.log in
-    let within = slice_get_within p.log (length p.log - 1) b.0 last in
-    record { block = b.0; pending = b.1; last = last; some = omega (arith, within) }
-
--- the entry of a lock of the pending block
-entry_was : (p : PackageView) (b : Block) (k : ℕ) (l : LockView) → IsStored p k l → p.pending ≡ Some b → has b.held k ≡ true → (e : Entry) × (l.journal.closed ≡ Some e) × (b ≡ e.block)
-entry_was p b k l s pending h = map_some block_in l.journal.closed b (s.closed ∙ ap (λ o. waiting_in o k) pending ∙ ap (λ v. if v then Some b else None) h)
+pending_last p sound some = grind (arith, slice_get_within)
 
 -- the batch rule lets the pending block follow, where it allows the section that the block began
 pub block_follows : (p : PackageView) (b : Block) (stamp worker : ℕ) → IsSoundPackage p → p.pending ≡ Some b → Allows p.context b worker → (k : ℕ) (l : LockView) → lock_in p.context.locks k ≡ Some l → has b.held k ≡ true
@@ -292,8 +250,7 @@ may_seal p b stamp worker regs locks sound pending is unsealed allows k l found 
     }
   where
     entry_block : (c : Block) (regs : Registers) (o : Option Opened) (e : Entry) → option_map (entry_from c regs) o ≡ Some e → e.block ≡ c
-    entry_block c regs None e is = absurd (cc)
-    entry_block c regs (Some o) e is = (let same : entry_from c regs o ≡ e = cc in ap block_in (sym same))
+    entry_block c regs o e is = grind arith
 
 pub sealed_at : (stamp worker : ℕ) (locks : List (Option LockView)) (k : ℕ) → lock_in (sealed_all stamp worker locks) k ≡ option_map (with_journal (sealed_as stamp worker)) (lock_in locks k)
 sealed_at stamp worker locks = mapped_at (with_journal (sealed_as stamp worker)) locks
@@ -302,8 +259,7 @@ pub seal_set : (stamp worker : ℕ) (p : PackageView) (k : ℕ) → set_of (with
 seal_set stamp worker p k = ap is_some (sealed_at stamp worker p.context.locks k) ∙ some_map (with_journal (sealed_as stamp worker)) (lock_in p.context.locks k)
 
 last_set : (xs : List Block) (b y : Block) → last_of xs ≡ Some b → last_of (set xs (length xs - 1) y) ≡ Some y
-last_set xs b y is =
-    ap (λ n. slice_get (set xs (length xs - 1) y) (n - 1)) (length-set xs (length xs - 1) y) ∙ get-set_same xs (length xs - 1) y (slice_get_within xs (length xs - 1) b is)
+last_set xs b y is = grind (arith, length-set, get-set_same, slice_get_within)
 
 module _ (p : PackageView) (b : Block) (stamp worker : ℕ) (sound : IsSoundPackage p) (pending : p.pending ≡ Some b) where
   abbrev q : PackageView
@@ -324,37 +280,10 @@ module _ (p : PackageView) (b : Block) (stamp worker : ℕ) (sound : IsSoundPack
 
   -- and of each of its locks
   last_there : (k : ℕ) (x : LockView) → IsStored p k x → has b.held k ≡ true → last_of (blocks_of (seal x)) ≡ Some c
-  last_there k x s h =
-      let e = entry_was p b k x s pending h in
-      ap (λ o. last_of (map block_in (sealed_list stamp worker x.journal.sealed o))) e.1 ∙ ap last_of (map-append block_in x.journal.sealed (sealed_entry stamp worker e.0 ∷ []))
-      ∙ last_more (blocks_of x) (sealed_block stamp worker e.0.block) ∙ ap (λ y. Some (sealed_block stamp worker y)) (sym e.2)
+  last_there k x s h = grind (arith, map-append, last_more)
 
   sealed_here : (k : ℕ) (x : LockView) → IsStored p k x → IsStored q k (seal x)
-  sealed_here k x s = record {
-    number = s.number;
-    known = s.known;
-    of = s.of;
-    turn = s.turn;
-    opened = s.opened;
-    closed = refl;
-    at = by (has b.held k) refl;
-  }
-    where
-      was : IsPending b k x
-      was = subst (λ o. IsAt o p k x) pending s.at
-
-      same : (y : Block) → last_of q.log ≡ Some y → y ≡ c
-      same y e = (let f : Some y ≡ Some c = sym e ∙ seal_last in cc)
-
-      by : (v : Bool) → has b.held k ≡ v → IsIdle q k (seal x)
-      by true h = record {
-        rests = λ free. subst (λ o. IfSome o (λ y. ends_section k y ≡ true)) (sym (last_there k x s h)) (not-false (ends_section k b) (sym (ap (λ v. v && not (ends_section k b)) h) ∙ sym (left_was.held k) ∙ free));
-        last = λ y e mine none. last_there k x s h ∙ ap Some (sym (same y e));
-      }
-      by false out = record {
-        rests = λ free. rests_as k x (seal x) (ap (sealed_list stamp worker x.journal.sealed) (closed_none x.journal.closed (s.closed ∙ ap (λ o. waiting_in o k) pending ∙ ap (λ v. if v then Some b else None) out))) (was.rests out);
-        last = λ y e mine none. absurd (both_ways _ (ap (λ (z : Block). has z.held k) (same y e) ∙ out) mine);
-      }
+  sealed_here k x s = grind (arith, seal_last, last_there)
 
   pub sealed_sound : IsSoundPackage q
   sealed_sound = record {
@@ -371,19 +300,11 @@ module _ (p : PackageView) (b : Block) (stamp worker : ℕ) (sound : IsSoundPack
 
 -- the locks of the pending block are closed and sealed at once, which is to seal what is seen as closed; in another one no entry is open
 module _ (b : Block) (stamp worker : ℕ) (regs : Registers) (old new : List (Option LockView)) (unsealed : EachLock (IsUnsealed b regs) old) (changed : Changed (sealed_in (has b.held) (sealed_block stamp worker b) regs) old new) where
-  once : (sealed : List Entry) (o : Option Opened) → sealed_list stamp worker sealed (option_map (entry_from (sealed_block stamp worker b) regs) o) ≡ sealed_list stamp worker sealed (option_map (entry_from b regs) o)
-  once sealed None = refl
-  once sealed (Some o) = refl
-
   one : (k : ℕ) (l : LockView) → IsUnsealed b regs k l → (v : Bool) → has b.held k ≡ v → when_in v (with_journal (sealed_with (sealed_block stamp worker b) regs)) l ≡ with_journal (sealed_as stamp worker) (with_journal (closed_with b regs) l)
-  one k l u true h = (let s = once l.journal.sealed l.journal.opened in λ i. record l { journal = record l.journal { sealed = s i; closed = None; opened = None } })
-  one k l u false out =
-      let none = u.others out in
-      λ i. record l { journal = record l.journal { sealed = sym (ap (λ o. sealed_list stamp worker l.journal.sealed (option_map (entry_from b regs) o)) none) i; closed = u.closed i; opened = none i } }
+  one k l u v h = grind arith
 
   each : (k : ℕ) (o : Option LockView) → lock_in old k ≡ o → option_map (sealed_in (has b.held) (sealed_block stamp worker b) regs k) o ≡ option_map (with_journal (sealed_as stamp worker)) (option_map (with_journal (closed_with b regs)) o)
-  each k None e = refl
-  each k (Some l) e = ap Some (one k l (unsealed k l e) (has b.held k) refl)
+  each k o e = grind (arith, one)
 
   pub seal_each : Changed (λ k. with_journal (sealed_as stamp worker)) (closed_all b regs old) new
   seal_each k = changed k ∙ each k (lock_in old k) refl ∙ ap (option_map (with_journal (sealed_as stamp worker))) (sym (mapped_at (with_journal (closed_with b regs)) old k))

@@ -1,13 +1,12 @@
 -- What a package keeps, through each of its calls.
-use Rattle.std.proofs.Common.{◌≡◌, ℕ, ◌<◌, ◌≤◌, Bool, true, false, not, ◌||◌, ◌&&◌, ◌==◌, List, map, filter, length, refl, sym, ap, subst, ◌∙◌, arith, inl, inr, Option, Some, None, IfSome, is_some, slice_index_or, set, if◌then◌else◌, length-set, get_or-set_same, get_or-set_other, vec_len, vec_capacity}
-use Rattle.tc_context.proofs.Vocabulary.{option_map, has, Shown, is_section, last_of, may_go_on, ends_section, passes_to, passes_on, Block, Thread, is_running, next_lock, LockView, IsAtRest, kept, block_in, blocks_of, Context, lock_in, AreOf, Changed, IsPlaced, SameLocks, thread_in, set_of, PackageView, granted_lock, eqb_tells, Entry, locks_of, next_free, next_known, next_by_own, Grant}
-use Rattle.tc_context.proofs.Vocabulary.{running_is, eq_self, End, Kind, want_of, number_in, waiting_in, IsNumber, IsFresh, EndsSection, IsIdle, IsAt, IsStored, IsLeft, EndsWith, IsGranted, MayPassTo, MayTake, IsSoundPackage, IsWanted, LastIsSealed, IsWaiting, IsRoomier, with_grant, without_lock, guest_in, locks_with, pending_in, context_with, view_of, view_with, KeptPackage, AreEnded, EachLock}
-use Rattle.tc_context.proofs.Vocabulary.{HasRoomFor, MAX_TURNS, IsUnsealed, Closes, Registers, closed_all, closed_with, shut, with_journal, length-map, MAX_HELD, Contents}
+use Rattle.std.proofs.Common.{◌≡◌, ℕ, ◌<◌, ◌≤◌, true, false, not, ◌||◌, ◌&&◌, ◌==◌, List, map, filter, length, refl, sym, ap, subst, ◌∙◌, arith, inl, inr, Option, Some, None, IfSome, is_some, slice_index_or, set, if◌then◌else◌, length-set, get_or-set_same, get_or-set_other, vec_len, vec_capacity}
+use Rattle.tc_context.proofs.Vocabulary.{option_map, has, Shown, is_section, last_of, may_go_on, ends_section, Block, Thread, is_running, next_lock, LockView, IsAtRest, kept, block_in, blocks_of, Context, lock_in, AreOf, Changed, IsPlaced, SameLocks, thread_in, set_of, PackageView, granted_lock, eqb_tells, Entry, locks_of, next_free, next_known, next_by_own, Grant}
+use Rattle.tc_context.proofs.Vocabulary.{running_is, eq_self, Kind, want_of, number_in, waiting_in, IsNumber, IsFresh, EndsSection, IsIdle, IsAt, IsStored, IsLeft, EndsWith, IsGranted, MayPassTo, MayTake, IsSoundPackage, IsWanted, LastIsSealed, IsWaiting, IsRoomier, with_grant, without_lock, guest_in, locks_with, pending_in, context_with, view_of, view_with, KeptPackage, AreEnded, EachLock}
+use Rattle.tc_context.proofs.Vocabulary.{HasRoomFor, MAX_TURNS, IsUnsealed, Closes, Registers, closed_with, shut, with_journal, length-map, MAX_HELD, Contents}
 use Rattle.std.specs.List.{range_with_len}
 use Rattle.tc_turn.proofs.Few.{fewer}
 pub use Rattle.std.proofs.lemmas.Bool.{and_parts, both_ways}
-use Rattle.tc_journal.specs.Handing.{is_cut, was_cut}
-use Rattle.tc_journal.specs.declared.block.End.TheVariants.{Cut}
+use Rattle.tc_journal.specs.Handing.{was_cut}
 pub use Rattle.tc_mutex_spec.proofs.OptionLaws.{map_some, some_map, some_of, option_map-twice, then_some, else_some}
 pub use Rattle.tc_context.proofs.LockList.{mapped_at, with_locks, put_place, locks_ext, when_field}
 
@@ -27,14 +26,7 @@ pub record Rests (a : Contents) (v : PackageView) : Type 0 where
   pub ended : AreEnded (context_with None a)
 
 pub rests : {a : Contents} {v : PackageView} → Shows a v → v.pending ≡ None → Rests a v
-rests {a} {v} s rest =
-    let none : pending_in a.pending a.log.items ≡ None = ap (λ (x : PackageView). x.pending) s.is ∙ rest in
-    record {
-      none = none;
-      is = ap (λ o. view_with o a) (sym none) ∙ s.is;
-      sound = subst (λ o. IsSoundPackage (view_with o a)) none s.kept.sound;
-      ended = subst (λ o. AreEnded (context_with o a)) none s.kept.ended;
-    }
+rests {a} {v} s rest = grind arith
 
 -- contents whose thread has its own memory, as they are
 abbrev pub bare_view : Contents → PackageView
@@ -71,17 +63,13 @@ ready a v s rest reserved =
 pub ran_seen : (P : PackageView → Type 0) (a : Contents) (new : Context) (b : Block) (log : List Block) (room now slept : ℕ) → a.first ≡ None → now ≡ room → last_of log ≡ Some b
     → P (record (bare_view a) { context = shut b new; granted = None; pending = Some b; log = log; log_room = room; slept = slept })
     → P (record (bare_view a) { context = record { thread = new.thread; guest = guest_in a.first new.guest; locks = locks_with (last_of log) new.guest.regs new.locks }; granted = None; pending = last_of log; log = log; log_room = now; slept = slept })
-ran_seen P a new b log room now slept none same last ran =
-    subst (λ o. P (record (bare_view a) { context = record { thread = new.thread; guest = guest_in a.first new.guest; locks = locks_with o new.guest.regs new.locks }; granted = None; pending = o; log = log; log_room = now; slept = slept })) (sym last)
-    (subst (λ n. P (record (bare_view a) { context = record { thread = new.thread; guest = guest_in a.first new.guest; locks = closed_all b new.guest.regs new.locks }; granted = None; pending = Some b; log = log; log_room = n; slept = slept })) (sym same)
-    (subst (λ first. P (record (bare_view a) { context = record { thread = new.thread; guest = guest_in first new.guest; locks = closed_all b new.guest.regs new.locks }; granted = None; pending = Some b; log = log; log_room = room; slept = slept })) (sym none) ran))
+ran_seen P a new b log room now slept none same last ran = grind arith
 
 -- a lock rests by its sealed entries alone
 pub rests_as : (k : ℕ) (x l : LockView) → l.journal.sealed ≡ x.journal.sealed → EndsSection k x → EndsSection k l
 rests_as k x l e rests = subst (λ s. IfSome (last_of (map block_in s)) (λ b. ends_section k b ≡ true)) (sym e) rests
 
--- ---- what follows from what a package keeps
-
+-- what follows from what a package keeps
 pub are_of : (p : PackageView) → IsSoundPackage p → AreOf p.image p.context.locks
 are_of p sound k l e = (let s = sound.stored k l e in record { number = s.number; known = s.known; of = s.of })
 
@@ -97,20 +85,13 @@ pub last_sealed : (p : PackageView) → IsSoundPackage p → LastIsSealed p
 last_sealed p sound rest none b is k l e h = (idle_at p k l sound rest e).last b is h (λ f. (let g : None ≡ Some k = ap granted_lock (sym none) ∙ f in cc))
 
 pub closed_none : (o : Option Entry) → option_map block_in o ≡ None → o ≡ None
-closed_none None e = refl
-closed_none (Some x) e = absurd (cc)
+closed_none o e = grind arith
 
 -- a lock that the thread doesn't hold may lie at home
 pub at_rest : (p : PackageView) (k : ℕ) (l : LockView) → IsSoundPackage p → p.pending ≡ None → has p.context.guest.held k ≡ false → lock_in p.context.locks k ≡ Some l → IsAtRest p.image k l
 at_rest p k l sound rest free e =
     let s = sound.stored k l e in
-    record {
-      number = s.number;
-      of = s.of;
-      opened = s.opened;
-      closed = closed_none l.journal.closed (s.closed ∙ ap (λ o. waiting_in o k) rest);
-      ended = (idle_at p k l sound rest e).rests free;
-    }
+    record { number = s.number; of = s.of; opened = s.opened; closed = closed_none l.journal.closed (s.closed ∙ ap (λ o. waiting_in o k) rest); ended = (idle_at p k l sound rest e).rests free }
 
 pub wanted : (p : PackageView) → IsSoundPackage p → (k : ℕ) → want_of p.image p.context ≡ Some k → IsWanted p k
 wanted p sound k e =
@@ -120,8 +101,7 @@ wanted p sound k e =
 
 -- the grant of a lock that was granted
 pub grant_of : (image : Shown) (p : Context) (o : Option Grant) (k : ℕ) → MayTake image p o → granted_lock o ≡ Some k → (g : Grant) × (o ≡ Some g) × (g.lock ≡ k) × IsGranted image p g
-grant_of image p None k may e = absurd (cc)
-grant_of image p (Some g) k may e = (g, refl, (let same : g.lock ≡ k = cc in same), may)
+grant_of image p o k may e = grind arith
 
 -- the thread is in the middle of the section of each lock that it holds
 pub goes_on : (p : PackageView) (k : ℕ) (l : LockView) → IsSoundPackage p → p.pending ≡ None → has p.context.guest.held k ≡ true → lock_in p.context.locks k ≡ Some l → may_go_on k (last_of (blocks_of l)) p.context.thread ≡ true
@@ -147,8 +127,7 @@ left_few image p (Some b) l =
     let few = l.few in
     omega arith
 
--- ---- a package in which nothing ran
-
+-- a package in which nothing ran
 pub fresh_sound : (image : Shown) (t fuel : ℕ) (p : PackageView) → IsFresh image t fuel p → t < length image.entries → length image.guards ≤ 32 → length p.context.locks ≡ 32 → length p.numbers ≡ 32 → IsSoundPackage p
 fresh_sound image t fuel p fresh lt few places numbers =
     let none : (k : ℕ) → has p.context.guest.held k ≡ false = (λ k. ap (λ (d : Thread). d.held k) fresh.thread) in
@@ -164,31 +143,15 @@ fresh_sound image t fuel p fresh lt few places numbers =
       alone = λ h. fresh.granted;
     }
 
--- ---- what wants a lock was not cut
-
-other_cut : (e : End) → (e ≡ Cut → ⊥) → is_cut e ≡ false
-other_cut Cut ne = absurd (ne refl)
-other_cut _ ne = refl
-
-next_of : (runs : Bool) (next : Option ℕ) (k : ℕ) → (if runs then next else None) ≡ Some k → next ≡ Some k
-next_of true next k e = e
-next_of false next k e = absurd (let n : ⊥ = cc in n)
-
+-- what wants a lock was not cut
 pub wants_uncut : (q : PackageView) (k : ℕ) → IsSoundPackage q → want_of q.image q.context ≡ Some k → was_cut (last_of q.log) ≡ false
-wants_uncut q k sound want = by (last_of q.log) sound.left
-  where
-    by : (o : Option Block) → IsLeft q.image q.context o → was_cut o ≡ false
-    by None left = refl
-    by (Some b) left = other_cut b.end (λ e. let f = left.cut e in let g = next_of (is_running q.context.guest.status) (next_lock q.image (thread_in q.context)) k want in let n : ⊥ = cc in n)
+wants_uncut q k sound want = grind arith
 
--- ---- with other locks
-
+-- with other locks
 left_as : (image : Shown) (p : Context) (locks : List (Option LockView)) (o : Option Block) → IsLeft image p o → IsLeft image (with_locks p locks) o
-left_as image p locks None left = record { runs = left.runs; held = left.held }
-left_as image p locks (Some b) left = record { thread = left.thread; runs = left.runs; next = left.next; cut = left.cut; held = left.held; released = left.released; few = left.few }
+left_as image p locks o left = grind arith
 
--- ---- rooms
-
+-- with other rooms
 abbrev pub with_rooms : PackageView → List (Option LockView) → ℕ → ℕ → PackageView
 with_rooms p locks room turns = record p { context = with_locks p.context locks; log_room = room; turns = turns }
 
@@ -198,13 +161,11 @@ changed_set f old new changed k = ap is_some (changed k) ∙ some_map (f k) (loc
 -- one lock more, or less
 pub set_with : (n m : ℕ) (l : LockView) (old new : List (Option LockView)) (was now : ℕ) → m ≡ n → IsPlaced n (Some l) old new → ((k : ℕ) → has now k ≡ ((k == m) || has was k)) → ((k : ℕ) → is_some (lock_in old k) ≡ has was k)
     → (k : ℕ) → is_some (lock_in new k) ≡ has now k
-set_with n m l old new was now is placed plus same k =
-    ap is_some (placed k) ∙ (elim (k == n) as (λ b. is_some (if b then Some l else lock_in old k) ≡ (b || has was k)) [ true ↦ refl | false ↦ same k ]) ∙ ap (λ j. (k == j) || has was k) (sym is) ∙ sym (plus k)
+set_with n m l old new was now is placed plus same k = grind arith
 
 pub set_without : (n : ℕ) (old new : List (Option LockView)) (was now : ℕ) → IsPlaced n None old new → ((k : ℕ) → has now k ≡ (not (k == n) && has was k)) → ((k : ℕ) → is_some (lock_in old k) ≡ has was k)
     → (k : ℕ) → is_some (lock_in new k) ≡ has now k
-set_without n old new was now placed less same k =
-    ap is_some (placed k) ∙ (elim (k == n) as (λ b. is_some (if b then None else lock_in old k) ≡ (not b && has was k)) [ true ↦ refl | false ↦ same k ]) ∙ sym (less k)
+set_without n old new was now placed less same k = grind arith
 
 pub lock_was : (o p : Option LockView) (l : LockView) → option_map kept p ≡ option_map kept o → p ≡ Some l → (x : LockView) × (o ≡ Some x) × (kept l ≡ kept x)
 lock_was o p l same e = map_some kept o (kept l) (sym same ∙ ap (option_map kept) e)
@@ -227,8 +188,7 @@ same_seen (Some b) regs old new same k =
     ∙ inner (lock_in old k) (λ l. refl) ∙ sym (outer (lock_in old k) (λ l. refl)) ∙ sym (ap (option_map kept) (mapped_at g old k))
 
 pub seen_places : (o : Option Block) (regs : Registers) (locks : List (Option LockView)) → length locks ≡ 32 → length (locks_with o regs locks) ≡ 32
-seen_places None regs locks full = full
-seen_places (Some b) regs locks full = length-map locks (option_map (with_journal (closed_with b regs))) ∙ full
+seen_places o regs locks full = grind (arith, length-map)
 
 -- what each lock has room for it has room for as it is seen
 pub roomy_seen : (o : Option Block) (regs : Registers) (locks : List (Option LockView)) → EachLock (λ k l. HasRoomFor MAX_TURNS l.journal) locks → EachLock (λ k l. HasRoomFor MAX_TURNS l.journal) (locks_with o regs locks)
@@ -283,19 +243,10 @@ sound_rooms p locks room turns places same sound = record {
 }
   where
     taking : (o : Option Grant) → MayTake p.image p.context o → MayTake p.image (with_locks p.context locks) o
-    taking None may = tt
-    taking (Some g) may = record {
-      next = may.next;
-      here = same_set p.context.locks locks same g.lock ∙ may.here;
-      section = may.section;
-      passes = λ l e strict. (let x = lock_was (lock_in p.context.locks g.lock) (lock_in locks g.lock) l (same g.lock) e in ap (λ (y : LockView). passes_to (last_of (blocks_of y)) g.kind p.context.thread) x.2 ∙ may.passes x.0 x.1 (ap (λ (y : LockView). y.journal.strict) (sym x.2) ∙ strict));
-    }
+    taking o may = grind arith
 
     at : (b : Option Block) (k : ℕ) (x l : LockView) → l.journal.sealed ≡ x.journal.sealed → l.journal.strict ≡ x.journal.strict → IsAt b p k x → IsAt b (with_rooms p locks room turns) k l
-    at None k x l s is idle = record { rests = λ out. rests_as k x l s (idle.rests out); last = λ b e h g. ap (λ y. last_of (map block_in y)) s ∙ idle.last b e h g }
-    at (Some b) k x l s is ran = record { rests = λ out. rests_as k x l s (ran.rests out); on = λ h n. ap (λ y. may_go_on k (last_of (map block_in y)) b.thread) s ∙ ran.on h n; passes = λ strict h. ap (λ y. passes_on k (map block_in y) b) s ∙ ran.passes (sym is ∙ strict) h }
-
--- ---- a grant, and a lock that is taken out
+    at b k x l s is idle = grind arith
 
 -- the lock at each place
 pub placed : (p : PackageView) (n : ℕ) (o : Option LockView) → IsSoundPackage p → n < 32 → (k : ℕ) → lock_in (set p.context.locks n o) k ≡ (if k == n then o else lock_in p.context.locks k)
@@ -303,18 +254,7 @@ placed p n o sound lt k = (let full = sound.places.0 in put_place p.context.lock
 
 -- a lock that stays in a package where nothing is granted
 stays_stored : (p : PackageView) (locks : List (Option LockView)) (granted : Option Grant) (numbers : List ℕ) (k : ℕ) (l : LockView) → p.granted ≡ None → p.pending ≡ None → slice_index_or numbers k 0 ≡ number_in p k → IsStored p k l → IsStored (record p { context = with_locks p.context locks; granted = granted; numbers = numbers }) k l
-stays_stored p locks granted numbers k l none rest number s =
-    let idle : IsIdle p k l = subst (λ o. IsAt o p k l) rest s.at in
-    let q : PackageView = record p { context = with_locks p.context locks; granted = granted; numbers = numbers } in
-    record {
-      number = s.number;
-      known = s.known;
-      of = s.of;
-      turn = subst IsNumber (sym number) s.turn;
-      opened = s.opened;
-      closed = s.closed;
-      at = subst (λ o. IsAt o q k l) (sym rest) (record { rests = idle.rests; last = λ b e h g. idle.last b e h (λ f. (let no : None ≡ Some k = ap granted_lock (sym none) ∙ f in cc)) });
-    }
+stays_stored p locks granted numbers k l none rest number s = grind arith
 
 pub granted_sound : (p : PackageView) (lock : LockView) (kind : Kind) (number : ℕ) → IsSoundPackage p → IsWaiting p lock.number → IsAtRest p.image lock.number lock → is_section kind ≡ true → MayPassTo lock kind p.context.thread → IsNumber number → IsSoundPackage (with_grant lock kind number p)
 granted_sound p lock kind number sound waiting rest section passes small =
@@ -360,10 +300,7 @@ taken_sound p lock sound rest ungranted free small =
       few = sound.few;
       places = (length-set p.context.locks lock None ∙ sound.places.0, sound.places.1);
       thread = sound.thread;
-      held = λ k h. (elim (eqb_tells k lock) [
-        | inl f ↦ absurd (both_ways _ (ap (has p.context.guest.held) f.1 ∙ free) h)
-        | inr f ↦ ap is_some (at k ∙ ap (λ v. if v then None else lock_in p.context.locks k) f.0) ∙ sound.held k h
-      ]);
+      held = λ k h. (grind arith);
       stored = λ k l e. stays_stored p q.context.locks p.granted p.numbers k l ungranted rest refl (sound.stored k l (else_some (k == lock) (lock_in p.context.locks k) l (sym (at k) ∙ e)));
       left = left_as p.image p.context q.context.locks (last_of p.log) sound.left;
       grant = subst (MayTake p.image q.context) (sym ungranted) tt;

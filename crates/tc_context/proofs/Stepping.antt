@@ -22,16 +22,12 @@ went_in held locks k = sym (option_map-id (turned held (Some done.Went) k) (lock
 
 -- nor does a store in the thread's own memory
 own_turned : (place : Region) (held : ℕ → Bool) (addr width value : ℕ) (locks : List (Option LockView)) → is_own place ≡ true → Changed (turned held (Some (done.Stored (put_at place addr width value)))) locks locks
-own_turned region.Private held addr width value locks e = λ k. sym (option_map-id (turned held (Some (done.Stored (put_at region.Private addr width value))) k) (lock_in locks k) (λ l. refl))
-own_turned region.Stack held addr width value locks e = λ k. sym (option_map-id (turned held (Some (done.Stored (put_at region.Stack addr width value))) k) (lock_in locks k) (λ l. refl))
-own_turned _ held addr width value locks e = absurd (cc)
+own_turned place held addr width value locks e = grind arith
 
 -- a number of the thread's own memory is noted wherever it is
 own_noted : (place : Region) (block : ℕ → Bool) (addr width number : ℕ) (old new : List (Option LockView)) → is_own place ≡ true → Changed (noted_in block (want.Load region.Private 0 1) None number) old new
     → Changed (noted_in block (want.Load place addr width) None number) old new
-own_noted region.Private block addr width number old new e changed = changed
-own_noted region.Stack block addr width number old new e changed = changed
-own_noted _ block addr width number old new e changed = absurd (cc)
+own_noted place block addr width number old new e changed = grind arith
 
 -- with fuel there is a next turn
 filled : (left : ℕ) → 0 < left → (left == 0) ≡ false
@@ -65,8 +61,7 @@ gone image block p h wanted answer put mid locks of wants found act free after n
   fuel = ap (λ (e : Thread). e.fuel) after;
 }
 
--- ---- the kinds of turns
-
+-- the kinds of turns
 pub plain_gone : (image : Shown) (block : ℕ → Bool) (p : Context) (h : Guest) → AreOf image p.locks → IsPlain image p.guest h → IsGone image block p (with_both p h p.locks)
 plain_gone image block p h of is =
     gone image block p h want.Nothing 0 None p.locks p.locks of is.want refl (is.act 0) (ap taken_by (is.act 0)) (ap thread_of is.rest) (none_noted block 0 p.locks) (went_in (has p.guest.held) p.locks)
@@ -129,8 +124,7 @@ store_may image block n p next put may acts =
       λ k l found. turn_ready image block d 0 (Some (Next next (Some put))) act covers k l (may.of k l found) (λ h. may.opened k l.journal (ap (option_map journal_in) found) h),
     )
 
--- ---- one turn more
-
+-- one turn more
 pub run_more : (image : Shown) (block : ℕ → Bool) (n f : ℕ) (p mid last : Context) → n < f → GoesOn image block n p (fuelled (f - n) mid) → IsGone image block mid last → GoesOn image block (suc n) p (fuelled (f - suc n) last)
 run_more image block n f p mid last low run gone =
     let less : f - n - 1 ≡ f - suc n = omega arith in

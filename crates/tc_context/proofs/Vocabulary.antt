@@ -21,7 +21,7 @@ pub use Rattle.std.proofs.lemmas.Bool.{and_parts, not-false}
 pub use Rattle.std.proofs.lemmas.Bool.Decides.{eqb_tells, nat_tests}
 pub use Rattle.std.proofs.lemmas.List.{length-map, map-append}
 pub use Rattle.std.proofs.lemmas.Option.{slice_get-get_or, slice_get-map, slice_get_within}
-pub use Rattle.tc_context.specs.Block.{DidRunBlock, DidTurns, MayRunBlock, shut}
+pub use Rattle.tc_context.specs.Block.{DidRunBlock, DidTurns, MayRunBlock, block_of, shut}
 pub use Rattle.tc_context.specs.Ran.{DidRun, slept_at, slept_by, slept_in}
 pub use Rattle.tc_context.specs.Run.{HasGone, IsGone, MayRun, fuelled}
 pub use Rattle.tc_context.specs.declared.package.Grant.{Grant}

@@ -6,21 +6,23 @@ use Rattle.tc_isa.specs.declared.instr.Instr.{Instr}
 use Rattle.tc_isa.specs.declared.limits.TheConstants.{MAX_TURNS}
 use Rattle.tc_elf.specs.Shown.{Shown}
 use Rattle.tc_exec.specs.Step.{instruction_at}
-use Rattle.tc_exec.specs.declared.code.Ahead.{Ahead}
+use Rattle.tc_exec.specs.declared.outcome.Done.{Done}
 use Rattle.tc_journal.specs.Batch.{is_section}
 use Rattle.tc_journal.specs.History.{IsBlock, IsEnd}
+use Rattle.tc_journal.specs.Rule.{end_rule}
 use Rattle.tc_journal.specs.declared.block.Block.{Block}
 use Rattle.tc_journal.specs.declared.block.Kind.{Kind}
-use Rattle.tc_turn.specs.Ahead.{IsAhead}
+use Rattle.tc_turn.specs.InPlace.{outcome_done}
 use Rattle.tc_turn.specs.Memory.{own_of}
 use Rattle.tc_turn.specs.Turn.{next_lock, thread_at_start, with_own}
 use Rattle.tc_context.specs.declared.context.Context.{Context}
 use Rattle.tc_context.specs.declared.context.Ran.{Ran}
+use Rattle.tc_context.specs.declared.context.Turned.{Turned}
 use Rattle.tc_context.specs.declared.context.Turns.{Turns}
 use Rattle.tc_context.specs.Whole.{thread_in, CanGo, RunsAs, Journals, AreEnded}
 use Rattle.tc_context.specs.Locks.{EachLock, IsUnsealed, closed_all, lock_in}
-use Rattle.tc_context.specs.Middle.{AreNoted, AreReady, MayTurn}
-use Rattle.tc_context.specs.Ran.{slept_in}
+use Rattle.tc_context.specs.Middle.{AreNoted, AreReady, DidTurn, MayTurn}
+use Rattle.tc_context.specs.Ran.{slept_by, slept_in}
 
 -- the thread of this number at its start, but for its own memory, which has no byte; no lock is there
 pub record IsAtStart (image : Shown) (t fuel : ℕ) (p : Context) : Type 0 where
@@ -29,17 +31,23 @@ pub record IsAtStart (image : Shown) (t fuel : ℕ) (p : Context) : Type 0 where
   pub locks : (k : ℕ) → lock_in p.locks k ≡ None
   pub places : length p.locks ≡ PLACES
 
--- what so many turns of a block with these locks ask, where this is known of the first
-pub record MayTurns (image decoded : Shown) (block : ℕ → Bool) (n : ℕ) (known : Ahead) (p : Context) : Type 0 where
+-- what so many turns of a block with these locks ask, where the first takes this lock
+pub record MayTurns (image decoded : Shown) (block : ℕ → Bool) (n : ℕ) (lock : Option ℕ) (p : Context) : Type 0 where
   pub code : decoded ≡ image
   pub may : MayTurn image block n p
-  pub ahead : IsAhead image (thread_in p) known
+  pub takes : lock ≡ next_lock image (thread_in p)
 
 -- a turn that takes no lock: its instruction, or why there is none
 pub record MayTurnBy (image : Shown) (block : ℕ → Bool) (found : Result Instr Fault) (p : Context) : Type 0 where
   pub may : MayTurn image block 1 p
   pub next : next_lock image (thread_in p) ≡ None
   pub instr : instruction_at image p.guest.regs.pc ≡ found
+
+-- a turn that takes no lock, and what it came to for its block
+pub record DidCome (image : Shown) (block : ℕ → Bool) (old new : Context) (t : Turned) : Type 0 where
+  pub done : Option Done
+  pub did : DidTurn image block old new done
+  pub is : t ≡ record { end = end_rule (outcome_done done) 0 None; slept = slept_by done }
 
 -- the turns of a block with these locks, whose entries are open: how many they are and how the block ended, the number of its
 -- SLEEP, the words that the locks noted, and the lock that the next turn takes
@@ -64,14 +72,16 @@ pub record MayRunBlock (image decoded : Shown) (kind : Kind) (lock : Option ℕ)
 abbrev pub shut : Block → Context → Context
 shut b p = record { thread = p.thread; guest = p.guest; locks = closed_all b p.guest.regs p.locks }
 
+-- the block of this kind that came to this
+abbrev pub block_of : Context → Kind → Ran → Block
+block_of p kind ran = record { stamp = 0; thread = p.thread; turns = ran.turns.count; held = ran.held; kind = kind; worker = 0; pc = ran.pc; end = ran.turns.end }
+
 -- the block that ran, the entries of its locks, the number of its SLEEP, and the lock that the next turn takes
 pub record DidRunBlock (image : Shown) (kind : Kind) (old new : Context) (ran : Ran) : Type 0 where
-  pub runs : RunsAs image old (shut ran.block new) ran.block.turns ran.block.end
-  pub journals : Journals image old (shut ran.block new) ran.block
-  pub unsealed : EachLock (IsUnsealed ran.block new.guest.regs) new.locks
-  pub sleeps : ran.slept ≡ slept_in image old ran.block.turns
-  pub thread : ran.block.thread ≡ old.thread
-  pub kind_is : ran.block.kind ≡ kind
-  pub pc : ran.block.pc ≡ (thread_in old).regs.pc
-  pub bounds : IsBlock ran.block
-  pub follows : ran.next ≡ next_lock image (thread_in new)
+  pub runs : RunsAs image old (shut (block_of old kind ran) new) ran.turns.count ran.turns.end
+  pub journals : Journals image old (shut (block_of old kind ran) new) (block_of old kind ran)
+  pub unsealed : EachLock (IsUnsealed (block_of old kind ran) new.guest.regs) new.locks
+  pub sleeps : ran.turns.slept ≡ slept_in image old ran.turns.count
+  pub pc : ran.pc ≡ (thread_in old).regs.pc
+  pub bounds : IsBlock (block_of old kind ran)
+  pub follows : ran.turns.next ≡ next_lock image (thread_in new)

@@ -1,12 +1,11 @@
 -- Turns of a block one after another, by decoded code.
-use Rattle.std.specs.Prelude.{◌≡◌, ℕ, ◌+◌, ◌-◌, ◌*◌, ◌%◌, ◌^◌, ◌<◌, ◌≤◌, Bool, true, length}
+use Rattle.std.specs.Prelude.{◌≡◌, ℕ, ◌+◌, ◌-◌, ◌%◌, ◌^◌, ◌<◌, ◌≤◌, Bool, true, length, Ok}
 use Rattle.tc_isa.specs.Sets.{has}
+use Rattle.tc_isa.specs.declared.instr.Instr.TheVariants.{Ecall}
 use Rattle.tc_elf.specs.Shown.{Shown}
-use Rattle.tc_exec.specs.Next.{IsInstrAt}
-use Rattle.tc_exec.specs.declared.code.Stretch.{Stretch}
+use Rattle.tc_exec.specs.Step.{instruction_at}
 use Rattle.tc_context.specs.declared.context.Context.{Context}
 use Rattle.tc_context.specs.declared.run.Run.{Run}
-use Rattle.tc_context.specs.declared.run.Stretched.{Stretched}
 use Rattle.tc_context.specs.declared.run.Way.{Way}
 use Rattle.tc_context.specs.declared.run.Way.TheVariants.{Stays, Next, Jumps}
 use Rattle.tc_context.specs.Locks.{AreOf}
@@ -35,15 +34,19 @@ HasGone image block old new Stays = new ≡ old
 HasGone image block old new Next = IsGone image block old new × (new.guest.regs.pc ≡ (old.guest.regs.pc + 4) % 2 ^ 32)
 HasGone image block old new Jumps = IsGone image block old new
 
--- at most so many turns in a stretch, all but what they take of the fuel; the slot is that of the place behind them
-pub record HasStretched (image : Shown) (block : ℕ → Bool) (bound : ℕ) (stretch : Stretch) (old new : Context) (ran : Stretched) : Type 0 where
-  pub runs : GoesOn image block ran.count old (fuelled (old.guest.fuel - ran.count) new)
-  pub fuel : new.guest.fuel ≡ old.guest.fuel
-  pub most : ran.count ≤ bound
-  pub slot : ran.slot < length stretch.slots.now → stretch.start + 4 * ran.slot ≡ new.guest.regs.pc
+-- a guest call comes next, where the run says so
+abbrev pub StopsAt : Shown → ℕ → Bool → Type 0
+StopsAt image pc calls = calls ≡ true → instruction_at image pc ≡ Ok Ecall
 
--- at most so many turns, and the instruction behind them, where it is told
+-- at most so many turns in a stretch, all but what they take of the fuel, and whether a call comes next
+pub record HasStretched (image : Shown) (block : ℕ → Bool) (bound : ℕ) (old new : Context) (run : Run) : Type 0 where
+  pub runs : GoesOn image block run.count old (fuelled (old.guest.fuel - run.count) new)
+  pub fuel : new.guest.fuel ≡ old.guest.fuel
+  pub most : run.count ≤ bound
+  pub calls : StopsAt image new.guest.regs.pc run.calls
+
+-- at most so many turns, and whether a call comes next
 pub record HasRun (image : Shown) (block : ℕ → Bool) (bound : ℕ) (old new : Context) (run : Run) : Type 0 where
   pub runs : GoesOn image block run.count old new
   pub most : run.count ≤ bound
-  pub stop : IsInstrAt image new.guest.regs.pc run.stop
+  pub calls : StopsAt image new.guest.regs.pc run.calls

@@ -1,32 +1,30 @@
 //! A thread with the locks that are in its package, and the blocks that it runs.
 
-ghost use Rattle.std.specs.Prelude.{◌≡◌, ℕ, ◌+◌, ◌<◌, ◌≤◌, ◌^◌, ◌==◌, true, false, length, Ok, Err, Some, None, IfOk, IfSome, MatchResult, if◌then◌else◌};
+ghost use Rattle.std.specs.Prelude.{◌≡◌, ℕ, ◌+◌, ◌<◌, ◌==◌, true, false, length, Ok, Err, Some, None, IfOk, MatchResult, if◌then◌else◌};
 ghost use Rattle.tc_isa.specs.Sets.{has};
+ghost use Rattle.tc_isa.specs.declared.instr.Instr.TheVariants.{Ecall};
 ghost use Rattle.tc_isa.specs.declared.limits.TheConstants.{MAX_TURNS};
-ghost use Rattle.tc_isa.specs.declared.held.TheConstants.Held.{PLACES};
 ghost use Rattle.tc_exec.specs.declared.outcome.Call.TheVariants.{Lock};
 ghost use Rattle.tc_exec.specs.declared.outcome.Done.TheVariants.{Called};
 ghost use Rattle.tc_journal.specs.Rule.{end_rule};
-ghost use Rattle.tc_journal.specs.declared.rule.Outcome.TheVariants.{Went};
-ghost use Rattle.tc_exec.specs.Next.{KnowsCode};
+ghost use Rattle.tc_journal.specs.declared.rule.Outcome.{Outcome};
 ghost use Rattle.tc_exec.specs.Step as step;
-ghost use Rattle.tc_turn.specs.Ahead.{IsAhead};
-ghost use Rattle.tc_turn.specs.InPlace.{faulted_if};
+ghost use Rattle.tc_turn.specs.InPlace.{faulted_if, outcome_done};
 ghost use Rattle.tc_turn.specs.Turn.{lock_answer, next_lock};
-ghost use Rattle.tc_mutex_spec.specs.Blocks.{locks_of_block};
 ghost use Rattle.tc_context.specs.Ran.{slept_by as slept_of_turn};
+ghost use Rattle.tc_context.specs.Run.{StopsAt};
 
 use crate::locks::LockSet;
 use std::alloc::{AllocError, Global};
 use tc_elf::image::Image;
-use tc_exec::code::{Ahead, Code};
+use tc_exec::code::Code;
 use tc_exec::outcome::{Call, Done, Want};
 use tc_exec::step::instruction_at;
 use tc_isa::fault::Fault;
 use tc_isa::held::Held;
 use tc_isa::instr::Instr;
 use tc_isa::limits::MAX_TURNS;
-use tc_journal::block::{Block, End, Kind};
+use tc_journal::block::{End, Kind};
 use tc_journal::rule::{Outcome, end_of};
 use tc_segment::packed::Packed;
 use tc_turn::answer::{Surroundings, answer};
@@ -37,19 +35,26 @@ use tc_turn::thread::GuestThread;
 /// which the last one ended it, else 0, and the lock that the next turn takes.
 #[derive(Clone, Copy)]
 pub(crate) struct Turns {
-    end: End,
-    count: u32,
-    slept: u32,
-    next: Option<u32>,
-}
-
-/// A block that ran, the number of the SLEEP with which it ended, else 0, and the lock that the
-/// thread's next turn takes.
-#[derive(Clone, Copy)]
-pub(crate) struct Ran {
-    pub(crate) block: Block,
+    pub(crate) end: End,
+    pub(crate) count: u32,
     pub(crate) slept: u32,
     pub(crate) next: Option<u32>,
+}
+
+/// What a turn that takes no lock came to for its block: how it ends it, where it does so whatever is
+/// ahead, and the number of its SLEEP, else 0.
+#[derive(Clone, Copy)]
+struct Turned {
+    end: Option<End>,
+    slept: u32,
+}
+
+/// What a block came to: its turns, its locks and the place where it began.
+#[derive(Clone, Copy)]
+pub(crate) struct Ran {
+    pub(crate) turns: Turns,
+    pub(crate) held: Held,
+    pub(crate) pc: u32,
 }
 
 /// Where registers are packed for the journals of a block's locks, and whether they are those of the
@@ -72,7 +77,7 @@ pub struct Context {
 impl Context {
     ghost use Rattle.tc_context.specs.Whole.{thread_in, mutex_at};
     ghost use Rattle.tc_context.specs.Middle.{MayTurn, DidTurn};
-    ghost use Rattle.tc_context.specs.Block.{IsAtStart, MayTurnBy, MayTurns, DidTurns, MayRunBlock, DidRunBlock};
+    ghost use Rattle.tc_context.specs.Block.{IsAtStart, MayTurnBy, MayTurns, DidCome, DidTurns, MayRunBlock, DidRunBlock};
 
     /// The thread of this number at its start, but for its own memory, which has no byte yet, and
     /// with no lock.
@@ -123,24 +128,49 @@ impl Context {
         self.locks.begin(lock);
     }
 
-    /// A turn that takes no lock, whose instruction is this where it is known.
-    fn other_turn<'a>(
-        &mut self,
-        image: &Image,
-        code: &'a Code,
-        block: Held,
-        known: Option<&'a Instr>,
-    ) -> Option<Done>
-        requires { MayTurns image.now code.now (has block) 1 (record { lock = None; instr = known }) self.old }
+    /// A turn that takes no lock. `calls` says whether it is known to be a guest call: nearly each one is,
+    /// so that stands in the caller.
+    #[inline(always)]
+    fn other_turn(&mut self, image: &Image, code: &Code, block: Held, calls: bool) -> Turned
+        requires may { MayTurns image.now code.now (has block) 1 None self.old }
+        requires calls { StopsAt image.now self.old.guest.regs.pc calls }
+        ensures { DidCome image.now (has block) self.old self.new result }
+    {
+        if calls {
+            return came_to(&self.call_turn(image, block));
+        }
+        self.any_turn(image, code, block)
+    }
+
+    /// A guest call that takes no lock. It needs no load and no answer, and no lock notes a word of it.
+    #[inline(always)]
+    fn call_turn(&mut self, image: &Image, block: Held) -> Option<Done>
+        requires { MayTurnBy image.now (has block) (Ok Ecall) self.old }
+        ensures did { DidTurn image.now (has block) self.old self.new result }
+    {
+        let held = self.guest.held();
+        let done = self.guest.turn(image, &Instr::Ecall, Want::Nothing, 0);
+        self.locks.take_turn(held, &done);
+        done
+    }
+
+    /// As `other_turn`, of any instruction.
+    #[inline(never)]
+    fn any_turn(&mut self, image: &Image, code: &Code, block: Held) -> Turned
+        requires { MayTurns image.now code.now (has block) 1 None self.old }
+        ensures { DidCome image.now (has block) self.old self.new result }
+    {
+        came_to(&self.found_turn(image, code, block))
+    }
+
+    /// The turn of the instruction that is found at its place, or is decoded.
+    fn found_turn(&mut self, image: &Image, code: &Code, block: Held) -> Option<Done>
+        requires { MayTurns image.now code.now (has block) 1 None self.old }
         ensures did { DidTurn image.now (has block) self.old self.new result }
     {
         let pc = self.guest.regs().pc();
-        let found = match known {
-            Some(instr) => Some(instr),
-            None => code.find(pc),
-        };
         let mut decoded = Instr::Ecall;
-        let instr = match found {
+        let instr = match code.find(pc) {
             Some(instr) => instr,
             None => match decode(image, pc, &mut decoded) {
                 Ok(()) => &decoded,
@@ -183,34 +213,27 @@ impl Context {
         fueled
     }
 
-    /// What is ahead behind so many turns of a block, whose instruction is this where it is known. It is
-    /// no LOCK before the first one.
+    /// The lock that the next turn takes behind so many turns of a block. `calls` says whether that turn is
+    /// known to be a guest call. It is no LOCK before the first one.
     #[inline(always)]
-    fn ahead<'a>(
-        &self,
-        image: &Image,
-        code: &'a Code,
-        count: u32,
-        known: Option<&'a Instr>,
-    ) -> Ahead<'a>
-        requires known { KnowsCode image.now code.now self.now.guest.regs.pc known }
+    fn lock_ahead(&self, image: &Image, code: &Code, count: u32, calls: bool) -> Option<u32>
+        requires code { code.now ≡ image.now }
+        requires calls { StopsAt image.now self.now.guest.regs.pc calls }
         requires first { count ≡ 0 → next_lock image.now (thread_in self.now) ≡ None }
-        ensures { IsAhead image.now (thread_in self.now) result }
+        ensures { result ≡ next_lock image.now (thread_in self.now) }
     {
         if count == 0 {
-            return Ahead {
-                lock: None,
-                instr: known,
-            };
+            return None;
         }
-        self.guest.ahead(image, code, known)
+        let call = Instr::Ecall;
+        let known = calls.then_some(&call);
+        self.guest.ahead(image, code, known).lock
     }
 
     /// Runs the turns of one block with these locks, whose entries are open. `takes` is the lock
     /// that the first turn takes: no other turn takes one, since a block ends before it.
     fn turns(&mut self, image: &Image, code: &Code, block: Held, takes: Option<u32>) -> Turns
-        requires { MayTurns image.now code.now (has block) MAX_TURNS
-            (record { lock = takes; instr = None }) self.old }
+        requires { MayTurns image.now code.now (has block) MAX_TURNS takes self.old }
         ensures did { DidTurns image.now (has block) self.old self.new result }
     {
         let mut count = 0;
@@ -222,21 +245,21 @@ impl Context {
             // What is ahead is asked once, where the run stops: no turn of it is a guest call.
             let run = self.run(image, code, block, MAX_TURNS - count);
             count += run.count;
-            let ahead = self.ahead(image, code, count, run.stop);
-            if let Some(end) = end_of(Outcome::Went, count, ahead.lock) {
-                return ended(end, count, 0, ahead.lock);
+            let lock = self.lock_ahead(image, code, count, run.calls);
+            if let Some(end) = end_of(Outcome::Went, count, lock) {
+                return ended(end, count, 0, lock);
             }
-            let done = self.other_turn(image, code, block, ahead.instr);
+            let turned = self.other_turn(image, code, block, run.calls);
             count += 1;
-            let behind = self.guest.ahead(image, code, None);
-            if let Some(end) = end_of(outcome_by(&done), count, behind.lock) {
-                return ended(end, count, slept_by(&done), behind.lock);
+            let next = self.guest.ahead(image, code, None).lock;
+            if let Some(end) = end_behind(turned.end, count, next) {
+                return ended(end, count, turned.slept, next);
             }
         }
     }
 
-    /// Runs one block, whose entry is open in the journal of each of its locks afterwards. `takes` is
-    /// the lock that its first turn takes. The block has no stamp and no worker yet.
+    /// Runs one block of this kind, whose entry is open in the journal of each of its locks afterwards.
+    /// `takes` is the lock that its first turn takes. The block has no stamp and no worker yet.
     pub(crate) fn run_block(
         &mut self,
         image: &Image,
@@ -251,32 +274,18 @@ impl Context {
         ensures packed { edge.new.packed ≡ false }
     {
         let on = self.guest.held();
-        let held = block_held(on, takes);
         let thread = self.thread;
-        prove!(held.bits() <= u32::MAX);
         prove!(thread <= u32::MAX);
         let fuel = self.guest.fuel();
         let start = self.guest.regs();
-        self.locks
+        let held = self
+            .locks
             .open_entries(on, takes, &mut edge.regs, edge.packed, start, fuel);
+        prove!(held.bits() <= u32::MAX);
         edge.packed = false;
         let pc = self.guest.regs().pc();
         let turns = self.turns(image, code, held, takes);
-        let block = Block {
-            stamp: 0,
-            thread,
-            turns: turns.count,
-            held,
-            kind,
-            worker: 0,
-            pc,
-            end: turns.end,
-        };
-        Ran {
-            block,
-            slept: turns.slept,
-            next: turns.next,
-        }
+        Ran { turns, held, pc }
     }
 }
 
@@ -329,6 +338,29 @@ fn decode(image: &Image, pc: u32, decoded: &mut Instr) -> Result<(), Fault>
     Ok(())
 }
 
+/// What a turn that did this came to for its block. Each caller has it for itself, since some know what
+/// was done.
+#[inline(always)]
+fn came_to(done: &Option<Done>) -> Turned
+    ensures { result ≡ record { end = end_rule (outcome_done done.now) 0 None; slept = slept_of_turn done.now } }
+{
+    Turned {
+        end: end_of(outcome_by(done), 0, None),
+        slept: slept_by(done),
+    }
+}
+
+/// How a block of so many turns ends behind a turn that ends it so, whatever is ahead, or else went, where
+/// the next turn takes this lock.
+fn end_behind(own: Option<End>, count: u32, next: Option<u32>) -> Option<End>
+    ensures { (o : Outcome) → own ≡ end_rule o 0 None → result ≡ end_rule o count next }
+{
+    match own {
+        Some(end) => Some(end),
+        None => end_of(Outcome::Went, count, next),
+    }
+}
+
 /// What the turns of a block came to, which ended so.
 fn ended(end: End, count: u32, slept: u32, next: Option<u32>) -> Turns
     ensures { result ≡ record { end = end; count = count; slept = slept; next = next } }
@@ -348,16 +380,5 @@ fn slept_by(done: &Option<Done>) -> u32
     match done {
         Some(Done::Called(Call::Sleep(blocks))) => *blocks,
         _ => 0,
-    }
-}
-
-/// The locks of a block whose thread holds these and takes this one in its first turn.
-fn block_held(held: Held, takes: Option<u32>) -> Held
-    requires { IfSome takes (λ lock. lock < PLACES) }
-    ensures { (k : ℕ) → has result k ≡ locks_of_block (has held) takes k }
-{
-    match takes {
-        None => held,
-        Some(lock) => held.plus(lock),
     }
 }

@@ -10,6 +10,7 @@ ghost use Rattle.tc_elf.specs.declared.image.Region.TheVariants.{Private};
 ghost use Rattle.tc_exec.specs.Told.{IsWidth};
 ghost use Rattle.tc_exec.specs.declared.outcome.Want.TheVariants.{Load};
 ghost use Rattle.tc_turn.specs.Replay.{takes_word as takes};
+ghost use Rattle.tc_segment.specs.Draft.{drafted};
 ghost use Rattle.tc_segment.specs.View.{guard_of, lock_of, noted, opened_at, sealed_with, with_break, with_journal, with_section, with_store, HasRoomFor, LockView};
 ghost use Rattle.tc_mutex_spec.specs.Blocks.{locks_of_block};
 ghost use Rattle.tc_context.specs.Locks.{lock_in, turned, put_in, TurnReady, PutReady, TurnFits, StoreFits};
@@ -25,6 +26,7 @@ use tc_isa::held::Held;
 use tc_isa::limits::MAX_TURNS;
 use tc_isa::regs::Regs;
 use tc_journal::block::Block;
+use tc_segment::draft::Draft;
 use tc_segment::packed::Packed;
 use tc_segment::state::LockState;
 
@@ -166,8 +168,8 @@ impl LockSet {
     }
 
     /// Opens an entry in each of these locks, which the thread holds, and in that which its first
-    /// turn takes. Only for that one the registers are packed, in `edge`, unless they are `packed`
-    /// there already.
+    /// turn takes: these are the locks of the block. Only for that one the registers are packed, in
+    /// `edge`, unless they are `packed` there already.
     pub(crate) fn open_entries(
         &mut self,
         held: Held,
@@ -176,16 +178,21 @@ impl LockSet {
         packed: bool,
         start: &Regs,
         fuel: u32,
-    )
+    ) -> Held
         requires packed { packed ≡ true → edge.old ≡ start.now }
         requires held { EachHeld (has held) (MayGoOn start.now) self.old }
         requires takes { IfSome takes (λ lock. (has held lock ≡ false) × HoldsAt lock (λ l. IsReady l.journal) self.old) }
-        ensures { Changed (opened_in (locks_of_block (has held) takes) start.now fuel) self.old self.new }
+        ensures opened { Changed (opened_in (locks_of_block (has held) takes) start.now fuel) self.old self.new }
+        ensures block { (k : ℕ) → has result k ≡ locks_of_block (has held) takes k }
     {
         self.open_held(held, start, fuel);
-        if let Some(lock) = takes {
-            pack(edge, packed, start);
-            self.open_one(lock, edge, fuel);
+        match takes {
+            None => held,
+            Some(lock) => {
+                pack(edge, packed, start);
+                self.open_one(lock, edge, fuel);
+                held.plus(lock)
+            }
         }
     }
 
@@ -244,13 +251,14 @@ impl LockSet {
         }
     }
 
-    fn seal_one(&mut self, lock: u32, block: &Block, finish: &Packed)
-        requires { HoldsAt lock (CanSeal block.now finish.now) self.old }
+    fn seal_one(&mut self, lock: u32, block: &Block, draft: &Draft, finish: &Packed)
+        requires draft { draft.now ≡ drafted block.now }
+        requires lock { HoldsAt lock (CanSeal block.now finish.now) self.old }
         ensures { Changed (at_place lock (with_journal (sealed_with block.now finish.now)))
             self.old self.new }
     {
         if let Some(state) = &mut self.places[lock as usize] {
-            state.close_sealed(block, finish);
+            state.close_drafted(block, draft, finish);
         }
     }
 
@@ -258,9 +266,10 @@ impl LockSet {
         requires { EachHeld (has block.now.held) (CanSeal block.now finish.now) self.old }
         ensures { Changed (sealed_in (has block.now.held) block.now finish.now) self.old self.new }
     {
+        let draft = Draft::of(block);
         let mut left = block.held;
         while let Some(lock) = left.least() {
-            self.seal_one(lock, block, finish);
+            self.seal_one(lock, block, &draft, finish);
             left = left.less(lock);
         }
     }

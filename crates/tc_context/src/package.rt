@@ -35,11 +35,12 @@ use tc_turn::memory::Memory;
 use tc_turn::status::Status;
 use tc_turn::thread::GuestThread;
 
-/// By how many blocks a log grows, the first time and later. What is not written yet takes no memory of
-/// the host, and a large log grows without a copy.
+/// For how many blocks a log has room first. What is not written yet takes no memory of the host.
 const FIRST_BLOCKS: usize = 1_024;
 
-const MORE_BLOCKS: usize = 4_096;
+/// By how many blocks it grows at least: it has room for 52,428 then, which with what an allocator
+/// keeps before them fill a large page of the host. A log of that size grows without a copy.
+const MORE_BLOCKS: usize = 51_404;
 
 /// The greatest number of a queue turn (ticket).
 pub const MAX_NUMBER: u64 = 16_777_215;
@@ -362,13 +363,22 @@ impl Package {
             &mut contents.edge,
         );
         contents.context.locks.bound();
-        contents.log.push_reserved(ran.block);
-        contents.room = contents.room.behind(ran.block.turns);
+        contents.log.push_reserved(Block {
+            stamp: 0,
+            thread: contents.context.thread,
+            turns: ran.turns.count,
+            held: ran.held,
+            kind,
+            worker: 0,
+            pc: ran.pc,
+            end: ran.turns.end,
+        });
+        contents.room = contents.room.behind(ran.turns.count);
         contents.granted = None;
         contents.pending = true;
-        contents.slept = ran.slept;
-        contents.next = ran.next;
-        ran.block.end
+        contents.slept = ran.turns.slept;
+        contents.next = ran.turns.next;
+        ran.turns.end
     }
 
     /// The kind of the next block.

@@ -3,9 +3,12 @@
 //! They touch registers, the thread's own memory and the guards of its locks. A block is mostly a LOCK,
 //! one run of such turns, and one guest call.
 
-ghost use Rattle.std.specs.Prelude.{◌≡◌, ℕ, ◌≤◌, Bool, Ok};
+ghost use Rattle.std.specs.Prelude.{◌≡◌, ℕ, ◌≤◌, Bool, true, Ok};
 ghost use Rattle.tc_isa.specs.Sets.{has};
+ghost use Rattle.tc_isa.specs.declared.instr.Instr.TheVariants.{Ecall};
+ghost use Rattle.tc_elf.specs.Shown.{Shown};
 ghost use Rattle.tc_exec.specs.Code.{IsTelling};
+ghost use Rattle.tc_exec.specs.Next.{IsInstrAt};
 ghost use Rattle.tc_exec.specs.Step.{instruction_at};
 ghost use Rattle.tc_turn.specs.Own.{IsLoad, IsStore};
 ghost use Rattle.tc_context.specs.Run.{MayRun, HasGone, HasStretched, HasRun};
@@ -32,32 +35,20 @@ enum Way {
     Jumps,
 }
 
-/// Turns that were done, and the instruction behind them.
+/// Turns that were done.
 #[derive(Clone, Copy)]
-pub(crate) struct Run<'a> {
+pub(crate) struct Run {
     /// How many turns.
     pub(crate) count: u32,
-    /// The instruction at which they end, where it is known or was decoded. None says nothing.
-    pub(crate) stop: Option<&'a Instr>,
-}
-
-/// Turns that were done, and the slot of the instruction behind them.
-#[derive(Clone, Copy)]
-struct Stretched {
-    count: u32,
-    slot: usize,
+    /// Whether a guest call is known to come next. False says nothing.
+    pub(crate) calls: bool,
 }
 
 impl Context {
     /// Does turns that go on and take no lock, at most `most`, and says how many: none outside the
     /// decoded words round the first, no guest call, and none that faults or loads text.
-    pub(crate) fn run<'a>(
-        &mut self,
-        image: &Image,
-        code: &'a Code,
-        block: Held,
-        most: u32,
-    ) -> Run<'a>
+    #[tactic(auto, using(crate::proofs::Stepping::may_less))]
+    pub(crate) fn run(&mut self, image: &Image, code: &Code, block: Held, most: u32) -> Run
         requires code { code.now ≡ image.now }
         requires may { MayRun image.now (has block) most self.old }
         ensures { HasRun image.now (has block) most self.old self.new result }
@@ -65,32 +56,23 @@ impl Context {
         let Some(stretch) = code.stretch(self.guest.regs().pc()) else {
             return Run {
                 count: 0,
-                stop: None,
+                calls: false,
             };
         };
         let most = most.min(self.guest.fuel());
-        let ran = self.run_stretch(image, &stretch, block, most);
-        self.guest.spend(ran.count);
-        Run {
-            count: ran.count,
-            stop: stretch.find(ran.slot),
-        }
+        let run = self.run_stretch(image, &stretch, block, most);
+        self.guest.spend(run.count);
+        run
     }
 
     /// Does at most so many such turns, all but what they take of the fuel. It stands in its caller,
     /// since a call of it costs more than such a turn, and many blocks have but a few.
     #[inline(always)]
-    fn run_stretch(
-        &mut self,
-        image: &Image,
-        stretch: &Stretch<'_>,
-        block: Held,
-        most: u32,
-    ) -> Stretched
+    fn run_stretch(&mut self, image: &Image, stretch: &Stretch<'_>, block: Held, most: u32) -> Run
         requires telling { IsTelling image.now stretch.now.start stretch.now.slots.now }
         requires fuel { most ≤ self.old.guest.fuel }
         requires may { MayRun image.now (has block) most self.old }
-        ensures { HasStretched image.now (has block) most stretch.now self.old self.new result }
+        ensures { HasStretched image.now (has block) most self.old self.new result }
     {
         let mut left = most;
         let mut slot = stretch.slot(self.guest.regs().pc());
@@ -105,9 +87,9 @@ impl Context {
             }
             left -= 1;
         }
-        Stretched {
+        Run {
             count: most - left,
-            slot,
+            calls: is_call(stretch.find(slot)),
         }
     }
 
@@ -241,4 +223,14 @@ impl Context {
             }
         }
     }
+}
+
+/// Whether an instruction is known to be a guest call. It is asked behind the loop, so that no turn in it
+/// costs more for it.
+#[inline(always)]
+fn is_call(known: Option<&Instr>) -> bool
+    ensures { (image : Shown) (pc : ℕ) → IsInstrAt image pc known.entry → result ≡ true
+        → instruction_at image pc ≡ Ok Ecall }
+{
+    matches!(known, Some(Instr::Ecall))
 }

@@ -95,6 +95,7 @@ pub(crate) fn is_numbered_lock(regs: &Regs) -> bool
 
 /// Does what ECALL does. `answer` is 1 for the LOCK of a broken lock, and else 0.
 #[tactic(auto, unfolding(crate::specs::Calls::guest_call))]
+#[inline(always)]
 pub(crate) fn guest_call(image: &Image, held: Held, regs: &mut Regs, answer: u32) -> Done
     ensures { IsDoneBy (calls.guest_call image.now (has held) regs.old answer)
         regs.old regs.new result }

@@ -34,7 +34,9 @@ pub fn wants(image: &Image, near: usize, held: Held, regs: &Regs, instr: &Instr)
 /// Executes the next instruction on the registers and returns its other effect, given the
 /// instruction and what it wants. `near` is as in `wants`, `answer` as in `step::act`. `step::act`
 /// says the same without changing the registers, at a much higher cost.
+/// Always inlined: a caller that knows the instruction has only what that needs.
 #[tactic(auto, unfolding(crate::specs::Step::act_of, crate::specs::Step::wants_of, crate::specs::Access::load))]
+#[inline(always)]
 pub fn go(
     image: &Image,
     near: usize,

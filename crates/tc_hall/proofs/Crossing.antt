@@ -6,16 +6,16 @@ use Rattle.atomic_table.proofs.shared.Seat.TheSendSync as Seat_moves
 use Rattle.atomic_table.proofs.owned.Table.TheSendSync as Table_moves
 use Rattle.tc_elf.proofs.image.Image.TheSendSync as Image_moves
 use Rattle.tc_exec.proofs.code.Part.TheSendSync as Part_moves
+use Rattle.tc_isa.proofs.held.Held.TheSendSync as Held_moves
 use Rattle.tc_journal.proofs.block.Block.TheSendSync as Block_moves
 use Rattle.tc_turn.proofs.memory.Memory.TheSendSync as Memory_moves
 use Rattle.tc_turn.proofs.thread.GuestThread.TheSendSync as Guest_moves
 use Rattle.tc_segment.proofs.edges.Edges.TheSendSync as Edges_moves
-use Rattle.tc_segment.proofs.record.Record.TheSendSync as Record_moves
-use Rattle.tc_segment.proofs.record.Opening.TheSendSync as Opening_moves
 use Rattle.tc_context.proofs.context.Edge.TheSendSync as Edge_moves
 use Rattle.tc_context.proofs.package.Grant.TheSendSync as Grant_moves
 use Rattle.tc_elf.specs.contracts.image.Image as Image
 use Rattle.tc_exec.specs.contracts.code.Code as Code
+use Rattle.tc_segment.specs.contracts.record.Record as Record
 use Rattle.tc_segment.specs.contracts.state.Contents as LockContents
 use Rattle.tc_segment.specs.contracts.state.LockState as LockState
 use Rattle.tc_context.specs.contracts.locks.LockSet as LockSet
@@ -38,11 +38,17 @@ code_send = search (sendable, crosses, Part_moves.the_send) depth 20
 code_sync : IsSync Code.the_row
 code_sync = search (sendable, crosses, Part_moves.the_sync) depth 20
 
+record_send : IsSend Record.the_row
+record_send = search (sendable, crosses, Held_moves.the_send) depth 40 fits 20000
+
+record_sync : IsSync Record.the_row
+record_sync = search (sendable, crosses, Held_moves.the_sync) depth 40 fits 20000
+
 lock_contents_send : IsSend LockContents.the_row
-lock_contents_send = search (sendable, crosses, Edges_moves.the_send, Record_moves.the_send, Opening_moves.the_send) depth 30
+lock_contents_send = search (sendable, crosses, Edges_moves.the_send, record_send) depth 30
 
 lock_contents_sync : IsSync LockContents.the_row
-lock_contents_sync = search (sendable, crosses, Edges_moves.the_sync, Record_moves.the_sync, Opening_moves.the_sync) depth 30
+lock_contents_sync = search (sendable, crosses, Edges_moves.the_sync, record_sync) depth 30
 
 lock_send : IsSend LockState.the_row
 lock_send = search (sendable, crosses, lock_contents_send) depth 20

@@ -4,8 +4,6 @@ use Rattle.std.specs.Prelude.{is_some, slice_get, slice_index_or}
 use Rattle.std.proofs.lemmas.List.{get_or_past}
 use Rattle.std.proofs.lemmas.List.FromFn.{get_or-map-range_with_len, length-map-range_with_len}
 use Rattle.std.proofs.lemmas.Option.{slice_get_cases}
-use mathlib.Core.Logic.{dite}
-use native.Mathlib.Decide.{ℕ_discrete}
 use Rattle.tc_hall.proofs.Vocabulary.{Block, DidRun, Grant, Knows, LockView, PackageView, PassCall, Place, Shown, Turn, claim_call, has, lock_in, locked_in, next_lock, option_map, place_of, put_call, sealed_as, sealed_block, thread_in, with_journal, with_seal}
 use Rattle.tc_journal.specs.Batch.{ends_section}
 use Rattle.tc_journal.specs.declared.block.Kind.{Kind}

@@ -11,11 +11,11 @@ use Rattle.tc_journal.specs.Digits.{hex2, hex8}
 use Rattle.tc_journal.specs.declared.buffer.TheConstants.{PAIRS}
 
 -- each number below n passes the test
-abbrev all_pass : (ℕ → Bool) → ℕ → Bool
+abbrev pub all_pass : (ℕ → Bool) → ℕ → Bool
 all_pass p zero = true
 all_pass p (suc n) = p n && all_pass p n
 
-passes : (p : ℕ → Bool) (n k : ℕ) → all_pass p n ≡ true → k < n → p k ≡ true
+pub passes : (p : ℕ → Bool) (n k : ℕ) → all_pass p n ≡ true → k < n → p k ≡ true
 passes p zero k all lt = absurd (omega arith)
 passes p (suc n) k all lt =
     let parts = and_parts (p n) (all_pass p n) all in

@@ -12,3 +12,4 @@ pub mod Batching
 pub mod Lists
 pub mod Rows
 pub mod Buffers
+pub mod Heads

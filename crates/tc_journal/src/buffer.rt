@@ -1,7 +1,7 @@
 //! Lines in one array, written from the end to the front. The last digit of a number is computed
 //! first, so digits are written where they stay and need not be counted.
 
-ghost use Rattle.std.specs.Prelude.{◌≡◌, ℕ, ◌+◌, ◌/◌, ◌%◌, ◌^◌, ◌<◌, ◌≤◌, ◌∷◌, ◌++◌, [], false, decimal, drop, length};
+ghost use Rattle.std.specs.Prelude.{◌≡◌, ℕ, ◌+◌, ◌/◌, ◌%◌, ◌^◌, ◌<◌, ◌≤◌, ◌∷◌, ◌++◌, [], false, decimal, drop, length, IsUtf8};
 ghost use Rattle.std.specs.Fmt.{digit_glyph};
 ghost use Rattle.tc_journal.specs.Digits.{hex2, hex8};
 
@@ -17,6 +17,9 @@ pub(crate) const LINES: usize = 16;
 
 /// How many bytes a buffer takes: room for so many lines.
 pub(crate) const ROOM: usize = 3_840;
+
+/// How many bytes a row has.
+pub(crate) const ROW: usize = 16;
 
 /// The text that is written so far. Contracts see its bytes. The array is the caller's, so that the
 /// start of the text stays in a register while a line is written.
@@ -42,6 +45,10 @@ impl<'a> Model for Buffer<'a> {
 static PAIRS: [u8; 512] =
     *b"000102030405060708090a0b0c0d0e0f101112131415161718191a1b1c1d1e1f202122232425262728292a2b2c2d2e2f303132333435363738393a3b3c3d3e3f404142434445464748494a4b4c4d4e4f505152535455565758595a5b5c5d5e5f606162636465666768696a6b6c6d6e6f707172737475767778797a7b7c7d7e7f808182838485868788898a8b8c8d8e8f909192939495969798999a9b9c9d9e9fa0a1a2a3a4a5a6a7a8a9aaabacadaeafb0b1b2b3b4b5b6b7b8b9babbbcbdbebfc0c1c2c3c4c5c6c7c8c9cacbcccdcecfd0d1d2d3d4d5d6d7d8d9dadbdcdddedfe0e1e2e3e4e5e6e7e8e9eaebecedeeeff0f1f2f3f4f5f6f7f8f9fafbfcfdfeff";
 
+/// The two decimal digits of each number below 100, number after number.
+static DECIMALS: [u8; 200] =
+    *b"00010203040506070809101112131415161718192021222324252627282930313233343536373839404142434445464748495051525354555657585960616263646566676869707172737475767778798081828384858687888990919293949596979899";
+
 /// The two digits of a byte.
 fn digits_of(byte: u8) -> (u8, u8)
     ensures high { result.0 ≡ digit_glyph false (byte / 16) }
@@ -61,6 +68,28 @@ pub(crate) fn write_byte(bytes: &mut [u8], at: usize, byte: u8)
     bytes[at + 1] = low;
 }
 
+/// The two decimal digits of a number below 100.
+fn decimals_of(number: u64) -> (u8, u8)
+    requires { number < 100 }
+    ensures tens { result.0 ≡ 48 + number / 10 }
+    ensures ones { result.1 ≡ 48 + number % 10 }
+{
+    let from = number as usize * 2;
+    (DECIMALS[from], DECIMALS[from + 1])
+}
+
+/// Writes the two decimal digits of a number below 100 from an offset on.
+fn write_decimals(bytes: &mut [u8], at: usize, number: u64)
+    requires small { number < 100 }
+    requires room { at + 2 ≤ length bytes.old }
+    ensures { drop at bytes.new
+        ≡ (48 + number / 10) ∷ (48 + number % 10) ∷ drop (at + 2) bytes.old }
+{
+    let (tens, ones) = decimals_of(number);
+    bytes[at] = tens;
+    bytes[at + 1] = ones;
+}
+
 /// Writes the digits of a word from an offset on, those of its last byte first.
 #[tactic(auto, unfolding(crate::specs::Digits::hex8))]
 pub(crate) fn write_word(bytes: &mut [u8], at: usize, word: u32)
@@ -74,8 +103,8 @@ pub(crate) fn write_word(bytes: &mut [u8], at: usize, word: u32)
 }
 
 /// Writes a text from an offset on, its last byte first. The texts of a line are short constants,
-/// so that this compiles to one or two stores.
-fn write_text(bytes: &mut [u8], at: usize, text: &[u8])
+/// so that this compiles to a few stores.
+pub(crate) fn write_text(bytes: &mut [u8], at: usize, text: &[u8])
     requires { at + length text.now ≤ length bytes.old }
     ensures { drop at bytes.new ≡ text.now ++ drop (at + length text.now) bytes.old }
 {
@@ -143,6 +172,31 @@ impl<'a> Buffer<'a> {
         let at = self.start - 8;
         write_word(self.bytes, at, word);
         self.start = at;
+    }
+
+    /// Prepends a number below 100, as two digits.
+    #[inline(always)]
+    pub fn put_pair(&mut self, number: u64)
+        requires small { number < 100 }
+        requires room { 2 + length self.old ≤ ROOM }
+        ensures { self.new ≡ (48 + number / 10) ∷ (48 + number % 10) ∷ self.old }
+    {
+        let at = self.start - 2;
+        write_decimals(self.bytes, at, number);
+        self.start = at;
+    }
+
+    /// Prepends the text that a row has from an index on. The whole row is copied, since a copy of
+    /// a fixed length is short: what is then in front of the text is no part of it.
+    #[inline(always)]
+    pub fn put_row(&mut self, row: &[u8; ROW], from: usize)
+        requires text { (from ≤ ROW) × IsUtf8 (drop from row.now) }
+        requires room { ROW + length self.old ≤ ROOM }
+        ensures { self.new ≡ drop from row.now ++ self.old }
+    {
+        let at = self.start - ROW;
+        write_text(self.bytes, at, row);
+        self.start = at + from;
     }
 
     /// The text that is written. Each part that was prepended is text, so the whole is text too.

@@ -11,8 +11,8 @@
 //! - `block`: what a block is, and one without its pc; `form`: the two forms of a block's line.
 //! - `batch`: which section of a lock may follow its last block; `law`: the lemmas of that rule.
 //! - `rule`: where a block ends.
-//! - `line`: its printed line, written in one array (`buffer`); `digits`: words and bytes as
-//!   reports print them.
+//! - `line`: its printed line, written in one array (`buffer`), and how those of a hundred stamps
+//!   begin (`head`); `digits`: words and bytes as reports print them.
 //! - `history`: merges logs, prints histories.
 //! - `reading`: reads histories back, by the block that a line may be (`spelling`).
 #![tactic(auto)]
@@ -22,6 +22,7 @@ pub mod block;
 mod buffer;
 pub mod digits;
 mod form;
+mod head;
 pub mod history;
 pub mod law;
 pub mod line;

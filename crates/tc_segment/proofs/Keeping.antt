@@ -1,12 +1,17 @@
 -- What a lock state keeps through its calls.
-use Rattle.std.proofs.Common.{◌≡◌, ℕ, zero, suc, ◌+◌, ◌-◌, Bool, true, false, ◌||◌, List, [], ◌∷◌, ◌++◌, map, set, length, take, drop, refl, sym, ap, subst, ◌∙◌, ◌<◌, ◌≤◌, arith, length-drop, length-append, inl, inr, Option, Some, None, option_map, is_some, slice_get, if◌then◌else◌}
-use Rattle.tc_segment.proofs.Vocabulary.{AllFit, AreReplayed, Block, Closes, Entry, Extends, Fits, IsSoundLock, LockView, Mutex, OpenFits, Opened, Opening, Record, Registers, Replays, Shown, closed_with, entries, fresh_state, guard_at, lock_of, more_words, mutex_at_start, noted, opened_at, regs_at, replay_entry, replayed, shown, shown_journal, shown_open, with_closed, End, ends_thread, grounds}
-use Rattle.tc_segment.proofs.Vocabulary.{IsStrict, Obeys, PassesOn, block_in, take_all, drop_all, take-append-le, drop-append-le, slice_get-get_or, slice_get_cases, replay_in, entry_from, strict_as, starting_byte, with_journal}
+use Rattle.std.proofs.Common.{◌≡◌, ℕ, zero, suc, ◌+◌, ◌-◌, Bool, true, false, ◌||◌, List, [], ◌∷◌, ◌++◌, map, length, take, drop, refl, sym, ap, subst, ◌∙◌, ◌<◌, ◌≤◌, arith, length-drop, length-append, inl, inr, Option, Some, None, option_map, is_some, slice_get, if◌then◌else◌}
+use Rattle.tc_segment.proofs.Vocabulary.{AllFit, AreParts, AreReplayed, Block, Closes, Entry, Extends, Fits, IsSoundLock, LockView, Mutex, OpenFits, Opened, Opening, Record, Registers, Replays, Shown, closed_with, entries, fresh_state, guard_at, lock_of, more_words, mutex_at_start, noted, opened_at, regs_at, replay_entry, replayed, shown, shown_journal, shown_open, with_closed}
+use Rattle.tc_segment.proofs.Vocabulary.{End, IsPlace, StandsAt, behind, block_of, start_of, map-append, ends_thread, grounds, IsStrict, Obeys, PassesOn, block_in, take_all, drop_all, take-append-le, drop-append-le, slice_get-get_or, slice_get_cases, slice_get_within, replay_in, entry_from, strict_as, starting_byte, with_journal}
 use Rattle.std.proofs.Math.Seq.{get_or-append_seam}
 use Rattle.std.proofs.lemmas.List.FromFn.{length-map-range_with_len}
 use Rattle.tc_isa.specs.declared.limits.TheConstants.{MAX_BATCH}
 use Rattle.tc_elf.specs.Kept.{IsGuard}
-use Rattle.tc_segment.proofs.Packing.{extends_same}
+use Rattle.std.proofs.lemmas.List.Elements.{All-get_or, All-head, All-tail, All-weaker}
+use Rattle.std.proofs.lemmas.Option.{get_or_from_slice_get}
+use Rattle.std.proofs.lemmas.List.Sums.{sum_by-cons}
+use Rattle.tc_segment.specs.Draft.{block_from, drafted}
+use Rattle.tc_segment.specs.Kept.{IsRecordOf, sum_of}
+use Rattle.tc_segment.proofs.Packing.{behind_same, extends_same, place_of-stands, stands_is}
 use Rattle.tc_segment.proofs.Journals.{replayed-more, are_replayed-more}
 
 -- registers and words that were there still are
@@ -28,29 +33,25 @@ edges_more edges more words e = record { regs = e; count = omega arith; same = �
 -- so nothing changes that is shown of what was there
 
 fits_one : {edges more : List ℕ} {words longer : List ℕ} → Grows edges more words longer → (r : Record) → Fits edges words r → Fits more longer r
-fits_one grows r fits =
-    let w = grows.count in
-    record {
-      start = grows.regs.places r.start fits.start;
-      finish = grows.regs.places r.finish fits.finish;
-      order = fits.order;
-      inside = (let h = fits.inside in omega arith);
-    }
+fits_one {more = more} grows r fits = record {
+  start = grows.regs.places (start_of r) fits.start;
+  finish = subst (IsPlace more) (sym (behind_same (start_of r) grows.regs fits.start)) (grows.regs.places _ fits.finish);
+  small = fits.small;
+  inside = omega (arith, fits.inside, grows.count);
+}
 
 pub fits_grown : {edges more : List ℕ} {words longer : List ℕ} → Grows edges more words longer → (rs : List Record) → AllFit edges words rs → AllFit more longer rs
-fits_grown grows [] fit = tt
-fits_grown grows (r ∷ rs) fit = (fits_one grows r fit.0, fits_grown grows rs fit.1)
+fits_grown grows rs fit = All-weaker _ _ (fits_one grows) rs fit
 
 shown_one : {edges more : List ℕ} {words longer : List ℕ} → Grows edges more words longer → (r : Record) → Fits edges words r → shown more longer r ≡ shown edges words r
-shown_one grows r fits =
-    let order = fits.order in
-    let inside = fits.inside in
-    λ i. record { block = r.block; start = (grows.regs.same r.start fits.start) i; fuel = r.fuel; finish = (grows.regs.same r.finish fits.finish) i; foreign = (grows.same r.from (r.to - r.from) (omega arith)) i }
+shown_one {more = more} grows r fits =
+    let finish = ap (regs_at more) (behind_same (start_of r) grows.regs fits.start) ∙ grows.regs.same _ fits.finish in
+    λ i. record { block = block_of r; start = (grows.regs.same (start_of r) fits.start) i; fuel = r.fuel; finish = finish i; foreign = (grows.same r.from.value r.words fits.inside) i }
 
 pub shown_grown : {edges more : List ℕ} {words longer : List ℕ} → Grows edges more words longer → (rs : List Record) → AllFit edges words rs → map (shown more longer) rs ≡ map (shown edges words) rs
 shown_grown grows [] fit = refl
-shown_grown grows (r ∷ rs) fit =
-    λ i. (shown_one grows r fit.0) i ∷ (shown_grown grows rs fit.1) i
+shown_grown {edges} {words = words} grows (r ∷ rs) fit =
+    λ i. (shown_one grows r (All-head (Fits edges words) r rs fit)) i ∷ (shown_grown grows rs (All-tail (Fits edges words) r rs fit)) i
 
 -- an open entry has the words that come
 open_more : (from : Mutex) (edges : List ℕ) (words ws : List ℕ) (o : Option Opening) → OpenFits edges words o → option_map (shown_open from edges (words ++ ws)) o ≡ option_map (more_words ws) (option_map (shown_open from edges words) o)
@@ -119,10 +120,10 @@ pub none_closed : (n : ℕ) (es : List Entry) → n ≤ length es → slice_get 
 none_closed n es le none = elim (slice_get_cases es n).1 [ inl x ↦ absurd (let e : None ≡ Some x.0 = sym none ∙ x.2 in cc) | inr y ↦ omega (arith, y.0, le) ]
 
 -- an entry is opened
-pub opened_journal : (image : Shown) (number limit : ℕ) (strict : Bool) (old new : List Entry) (sealed : ℕ) (edges more : List ℕ) (words : List ℕ) (er wr place from : ℕ) (start : Registers) (fuel : ℕ) (at : Mutex)
+pub opened_journal : (image : Shown) (number limit : ℕ) (strict : Bool) (old new : List Entry) (sealed : ℕ) (edges more : List ℕ) (words : List ℕ) (er wr place from before : ℕ) (start : Registers) (fuel : ℕ) (at : Mutex)
     → new ≡ old → regs_at more place ≡ start → from ≡ length words → replayed image number (mutex_at_start image number) old ≡ at
-    → shown_journal (grounds image number limit strict more words) new sealed (Some (record { fuel = fuel; start = place; from = from })) (er - 1) wr ≡ opened_at at start fuel (shown_journal (grounds image number limit strict edges words) old sealed None er wr)
-opened_journal image number limit strict old new sealed edges more words er wr place from start fuel at same is len lock =
+    → shown_journal (grounds image number limit strict more words) new sealed (Some (record { fuel = fuel; start = place; from = from; before = before })) (er - 1) wr ≡ opened_at at start fuel (shown_journal (grounds image number limit strict edges words) old sealed None er wr)
+opened_journal image number limit strict old new sealed edges more words er wr place from before start fuel at same is len lock =
     let none = drop_all from words (omega (arith, len)) in
     let at_new = ap (replayed image number (mutex_at_start image number)) same ∙ lock in
     λ i. record { image = image; limit = limit; strict = strict; sealed = take sealed (same i); closed = slice_get (same i) sealed; opened = Some (record { start = is i; fuel = fuel; from = at_new i; foreign = none i }); entry_room = er - 1; word_room = wr }
@@ -135,20 +136,24 @@ sound_opened start fuel l sound none closed =
     let j = opened_at (lock_of l) start fuel l.journal in
     sound_with l j.sealed j.closed j.opened j.entry_room j.word_room sound sound.replays (λ e. absurd (cc)) (λ o e. opened_from (lock_of l) (replay_in l.number l.journal) start fuel o (sound.rest none) e) (λ h. closed) sound.obeys sound.passes
 
+-- the record of an open entry shows it, once its block is drafted and its words are counted
+pub record_shown : (edges more words : List ℕ) (o : Opening) (block : Block) (finish : Registers) (step noted : ℕ) (from : Mutex) (r : Record) → IsRecordOf (drafted block) o step noted r → block_from (drafted block) ≡ block → Extends edges more → OpenFits edges words (Some o)
+    → start_of r ≡ o.start → StandsAt more (behind more o.start) finish → noted ≡ length words - o.from → shown more words r ≡ entry_from block finish (shown_open from edges words o)
+record_shown edges more words o block finish step noted from r of exact extends fits at there count =
+    let start = ap (regs_at more) at ∙ extends.same o.start (place_of-stands fits.0.stands) in
+    let end = (λ i. regs_at more (behind more (at i))) ∙ stands_is there in
+    let all = (λ i. take (of.words i) (drop (of.from i) words)) ∙ take_all noted (drop o.from words) (omega (arith, length-drop o.from words, count)) in
+    λ i. record { block = (of.block ∙ exact) i; start = start i; fuel = of.fuel i; finish = end i; foreign = all i }
+
 -- the entry closed
-pub closed_journal : (image : Shown) (number limit : ℕ) (strict : Bool) (old new : List Entry) (sealed : ℕ) (edges more : List ℕ) (words : List ℕ) (opened : Option Opening) (er wr : ℕ) (o : Opening) (block : Block) (finish : Registers) (place to : ℕ)
-    → opened ≡ Some o → Extends edges more → OpenFits edges words (Some o) → regs_at more place ≡ finish → to ≡ length words → sealed ≡ length old
-    → new ≡ old ++ shown more words (record { block = block; fuel = o.fuel; start = o.start; finish = place; from = o.from; to = to }) ∷ []
+pub closed_journal : (image : Shown) (number limit : ℕ) (strict : Bool) (old new : List Entry) (sealed : ℕ) (edges more : List ℕ) (words : List ℕ) (opened : Option Opening) (er wr : ℕ) (o : Opening) (block : Block) (finish : Registers) (e : Entry)
+    → opened ≡ Some o → e ≡ entry_from block finish (shown_open (replayed image number (mutex_at_start image number) old) edges words o) → sealed ≡ length old → new ≡ old ++ e ∷ []
     → shown_journal (grounds image number limit strict more words) new sealed None er wr ≡ closed_with block finish (shown_journal (grounds image number limit strict edges words) old sealed opened er wr)
-closed_journal image number limit strict old new sealed edges more words opened er wr o block finish place to is extends fits there len count made =
-    let all : take (to - o.from) (drop o.from words) ≡ drop o.from words = take_all (to - o.from) (drop o.from words) (omega (arith, length-drop o.from words, len)) in
-    let from = replayed image number (mutex_at_start image number) old in
-    let x = shown more words (record { block = block; fuel = o.fuel; start = o.start; finish = place; from = o.from; to = to }) in
-    let before : take sealed new ≡ take sealed old = ap (take sealed) made ∙ take-append-le sealed old (x ∷ []) (omega (arith, count)) in
-    let last : slice_get new sealed ≡ Some x = ap (λ es. slice_get es sealed) made ∙ last_at old x sealed count in
-    let entry : Some x ≡ option_map (entry_from block finish) (option_map (shown_open from edges words) opened) =
-    (λ i. Some (record { block = block; start = (extends.same o.start fits.0) i; fuel = o.fuel; finish = there i; foreign = all i })) ∙ ap (λ y. option_map (entry_from block finish) (option_map (shown_open from edges words) y)) (sym is) in
-    λ i. record { image = image; limit = limit; strict = strict; sealed = before i; closed = (last ∙ entry) i; opened = None; entry_room = er; word_room = wr }
+closed_journal image number limit strict old new sealed edges more words opened er wr o block finish e is entry count made =
+    let before : take sealed new ≡ take sealed old = ap (take sealed) made ∙ take-append-le sealed old (e ∷ []) (omega (arith, count)) in
+    let last : slice_get new sealed ≡ Some e = ap (λ es. slice_get es sealed) made ∙ last_at old e sealed count in
+    let was = ap (λ y. option_map (entry_from block finish) (option_map (shown_open (replayed image number (mutex_at_start image number) old) edges words) y)) (sym is) in
+    λ i. record { image = image; limit = limit; strict = strict; sealed = before i; closed = (last ∙ ap Some entry ∙ was) i; opened = None; entry_room = er; word_room = wr }
 
 -- the end of a thread breaks a lock that is broken no more
 pub ended_broken : (end : End) (broken : Bool) → (ends_thread end ≡ true → broken ≡ true) → (ends_thread end || broken) ≡ broken
@@ -176,35 +181,26 @@ pub fresh_view : (of image : Shown) (number limit : ℕ) (strict : Bool) (bytes 
 fresh_view of image number limit strict bytes words edges records entries room o b r er none = λ i. record { number = number; bytes = b i; broken = false; sections = 0; journal = shown_journal (grounds (o i) number limit strict edges words) (map (shown edges words) (r i)) 0 None (er i) (none i) }
 
 pub sound_fresh : (image : Shown) (number limit : ℕ) (strict : Bool) → number < length image.guards → number < 32 → IsGuard image (guard_at image number) → limit ≤ MAX_BATCH → IsSoundLock (with_journal (strict_as strict) (fresh_state image number limit))
-sound_fresh image number limit strict known small guard most = record {
-  known = known;
-  small = small;
-  guard = guard;
-  bytes = length-map-range_with_len (starting_byte image) (guard_at image number).start (guard_at image number).length;
-  limit = most;
-  replays = tt;
-  rest = λ e. refl;
-  from = λ o e. absurd (cc);
-  alone = λ h. absurd (cc);
-  obeys = tt;
-  passes = λ h. tt;
-}
+sound_fresh image number limit strict known small guard most =
+    let bytes = length-map-range_with_len (starting_byte image) (guard_at image number).start (guard_at image number).length in
+    record { known = known; small = small; guard = guard; bytes = bytes; limit = most; replays = tt; rest = λ e. refl; from = λ o e. absurd (cc); alone = λ h. absurd (cc); obeys = tt; passes = λ h. tt }
 
 -- ---- the entries
 
 -- the record at a place has its registers and words
 pub fits_at : (edges : List ℕ) (words : List ℕ) (rs : List Record) (i : ℕ) (r : Record) → AllFit edges words rs → slice_get rs i ≡ Some r → Fits edges words r
-fits_at edges words [] i r all is = absurd (cc)
-fits_at edges words (x ∷ rs) zero r all is = (let same : x ≡ r = cc in subst (λ (y : Record). Fits edges words y) same all.0)
-fits_at edges words (x ∷ rs) (suc i) r all is = fits_at edges words rs i r all.1 is
+fits_at edges words rs i r all is = subst (λ (y : Record). Fits edges words y) (get_or_from_slice_get rs i r r is) (All-get_or (Fits edges words) rs i r (slice_get_within rs i r is) all)
 
--- one record more
-pub fits_end : (edges : List ℕ) (words : List ℕ) (rs : List Record) (r : Record) → AllFit edges words rs → Fits edges words r → AllFit edges words (rs ++ r ∷ [])
-fits_end edges words [] r all fits = (fits, tt)
-fits_end edges words (x ∷ rs) r all fits = (all.0, fits_end edges words rs r all.1 fits)
+parts_end : (from : ℕ) (ps : List (ℕ × ℕ)) (p : ℕ × ℕ) (to : ℕ) → AreParts from ps p.0 → p.0 + p.1 ≡ to → AreParts from (ps ++ p ∷ []) to
+parts_end from [] p to are sum = (sym are, omega (arith, are, sum))
+parts_end from (q ∷ ps) p to are sum = (are.0, parts_end (from + q.1) ps p to are.1 sum)
 
--- a record that is stamped
-pub fits_set : (edges : List ℕ) (words : List ℕ) (rs : List Record) (i : ℕ) (r : Record) → AllFit edges words rs → Fits edges words r → AllFit edges words (set rs i r)
-fits_set edges words [] i r all fits = tt
-fits_set edges words (x ∷ rs) zero r all fits = (fits, all.1)
-fits_set edges words (x ∷ rs) (suc i) r all fits = (all.0, fits_set edges words rs i r all.1 fits)
+-- one part more
+pub parts_more : (part : Record → ℕ × ℕ) (rs new : List Record) (r : Record) (to : ℕ) → new ≡ rs ++ r ∷ [] → AreParts 0 (map part rs) (part r).0 → (part r).0 + (part r).1 ≡ to → AreParts 0 (map part new) to
+parts_more part rs new r to made are sum = subst (λ ps. AreParts 0 ps to) (sym (ap (map part) made ∙ map-append part rs (r ∷ []))) (parts_end 0 (map part rs) (part r) to are sum)
+
+-- a part begins behind all those before
+pub parts_before : (part : Record → ℕ × ℕ) (from : ℕ) (rs : List Record) (to i : ℕ) (r : Record) → AreParts from (map part rs) to → slice_get rs i ≡ Some r → from + sum_of part (take i rs) ≡ (part r).0
+parts_before part from [] to i r are is = absurd (cc)
+parts_before part from (x ∷ rs) to zero r are is = (let same : x ≡ r = cc in omega (arith, are.0, ap (λ (y : Record). (part y).0) same))
+parts_before part from (x ∷ rs) to (suc i) r are is = (let more : sum_of part (take (suc i) (x ∷ rs)) ≡ (part x).1 + sum_of part (take i rs) = sum_by-cons (λ (y : Record). (part y).1) x (take i rs) in omega (arith, more, parts_before part (from + (part x).1) rs to i r are.1 is))

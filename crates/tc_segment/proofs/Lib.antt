@@ -7,3 +7,4 @@ pub mod Sealing
 pub mod Inside
 pub mod Resting
 pub mod Words
+pub mod Small

@@ -1,7 +1,9 @@
 -- Registers that are packed, and noted one after another.
 use Rattle.std.proofs.Common.{◌≡◌, ℕ, zero, suc, ◌+◌, ◌-◌, ◌*◌, ◌^◌, ◌/◌, ◌%◌, ◌<◌, ◌≤◌, min, inl, inr, Bool, true, false, ◌==◌, List, [], ◌∷◌, ◌++◌, length, get_or, take, drop, set, refl, ap, sym, subst, ◌∙◌, arith, append_assoc, append-nil, length-append, length-drop, map, not, slice_index, if◌then◌else◌}
-use Rattle.tc_segment.proofs.Vocabulary.{Extends, IsPlace, IsRegisters, Registers, StandsAt, bit_and, mask_of, nonzero, packed, with_register, drop-append-le, get_or-drop, drop-drop, length-take, take-append-drop, take_all, take_more_set, Decides-eqb, cases_lt, spread, regs_at, ArePacked, and_step, and_self}
+use Rattle.tc_segment.proofs.Vocabulary.{Extends, IsPlace, IsRegisters, Registers, StandsAt, StandsLast, behind, bit_and, drop_at, mask_of, nonzero, packed, take-append-le, with_register, drop-append-le, get_or-drop, drop-drop, length-take, take-append-drop, take_all, take_more_set, Decides-eqb, cases_lt, spread, regs_at, ArePacked, and_step, and_self}
 use Rattle.std.proofs.Math.Nat.{pow-succ'}
+use Rattle.std.proofs.Math.Seq.{take-append-add}
+use Rattle.std.proofs.lemmas.List.{take-take}
 use Rattle.std.specs.Int.Count.{count_trailing_zeros, under}
 use Rattle.std.specs.Simd.Lanes.{mask_l}
 
@@ -54,13 +56,6 @@ packed_is words end r h = stands_is {edges = words} {i = 0} (record {
   whole = h.whole;
 })
 
--- words that are these registers, with none behind them
-pub all_packed : {words : List ℕ} {r : Registers} → ArePacked words (length words) r → words ≡ packed r
-all_packed {words} {r} h = sym (take_all (length words) words (omega arith)) ∙ h.is
-
-pub some_packed : {words : List ℕ} {r : Registers} → ArePacked words (length words) r → 2 ≤ length words
-some_packed {words} {r} h = (let two : 2 ≤ length (packed r) = omega arith in omega (arith, ap length (all_packed h)))
-
 pub are_packed : (words : List ℕ) (end : ℕ) (r : Registers) → ArePacked words end r → ArePacked words end (regs_at words 0)
 are_packed words end r h = subst (λ x. ArePacked words end x) (sym (packed_is words end r h)) h
 
@@ -84,9 +79,26 @@ extends_more edges more = record {
   same = λ i there. stands_is (stands_more more there);
 }
 
--- these registers are the last that stand there
-pub stands_last : (edges : List ℕ) (i : ℕ) (r : Registers) → IsRegisters r → i < length edges → drop i edges ≡ packed r → StandsAt edges i r
-stands_last edges i r whole inside is = record { inside = inside; rest = []; is = is ∙ sym (append-nil (packed r)); whole = whole }
+pub behind_same : {old new : List ℕ} (i : ℕ) → Extends old new → IsPlace old i → behind new i ≡ behind old i
+behind_same i more there = ap (λ (r : Registers). i + length (packed r)) (more.same i there)
+
+-- registers that are written behind the old ones, at the front of a row, stand there beside them
+pub stands_beside : {r : Registers} {was front row : List ℕ} {at n len : ℕ} (rest more : List ℕ) → ArePacked row n r → front ≡ was → length front ≡ at → n ≤ length row → at + n ≤ len
+    → let all : List ℕ = take (at + n) (take len ((front ++ (row ++ rest)) ++ more)) in StandsLast all at r × Extends was all
+stands_beside {r} {was} {front} {row} {at} {n} {len} rest more packs same count le fits =
+    let is = take-take (at + n) len ((front ++ (row ++ rest)) ++ more) fits ∙ take-append-le (at + n) (front ++ (row ++ rest)) more (omega (arith, count, le, length-append front (row ++ rest), length-append row rest))
+    ∙ ap (λ k. take (k + n) (front ++ (row ++ rest))) (sym count) ∙ take-append-add front (row ++ rest) n ∙ (λ i. same i ++ (take-append-le n row rest le ∙ packs.is) i) in
+    let inside : at < length (take (at + n) (take len ((front ++ (row ++ rest)) ++ more))) = (let two : 2 ≤ length (packed r) = omega arith in omega (arith, ap length is, length-append was (packed r), ap length same, count)) in (
+      record {
+        stands = record { inside = inside; rest = []; is = ap (drop at) is ∙ drop_at was (packed r) at (ap length (sym same) ∙ count) ∙ sym (append-nil (packed r)); whole = packs.whole };
+        last = omega (arith, ap length is, length-append was (packed r), ap length same, count);
+      },
+      subst (λ ws. Extends was ws) (sym is) (extends_more was (packed r)),
+    )
+
+-- words that begin as others do are the same registers
+pub packed_same : {xs ys : List ℕ} {end : ℕ} {r s : Registers} (n : ℕ) → r ≡ s → ArePacked xs end r → end ≤ n → take n ys ≡ take n xs → ArePacked ys end s
+packed_same {xs} {ys} {end} n view packs le same = subst (λ r. ArePacked ys end r) view (record { few = packs.few; is = sym (take-take end n ys le) ∙ ap (take end) same ∙ take-take end n xs le ∙ packs.is; whole = packs.whole })
 
 -- ---- packing
 
@@ -196,11 +208,12 @@ nonzero_less (x ∷ xs) =
     let less = nonzero_less xs in
     (elim (x == 0) as (λ b. length (if b then nonzero xs else x ∷ nonzero xs) ≤ suc (length xs)) [ true ↦ omega arith | false ↦ omega arith ])
 
+pub packed_few : (r : Registers) → IsRegisters r → length (packed r) ≤ 33
+packed_few r whole = (let numbers = nonzero_less (drop 1 r.words) in omega (arith, numbers, length-drop 1 r.words, whole.count))
+
 -- where one more is to come, there is room for it
 pub next_fits : (buffer rest : List ℕ) (end value : ℕ) (r : Registers) → IsRegisters r → length buffer ≡ 33 → end ≤ 33 → take end buffer ++ value ∷ rest ≡ packed r → end < 33
-next_fits buffer rest end value r whole count le is =
-    let numbers = nonzero_less (drop 1 r.words) in
-    omega (arith, ap length is, length-append (take end buffer) (value ∷ rest), length-take end buffer, length-drop 1 r.words, whole.count)
+next_fits buffer rest end value r whole count le is = omega (arith, ap length is, length-append (take end buffer) (value ∷ rest), length-take end buffer, packed_few r whole)
 
 -- ---- unpacking
 

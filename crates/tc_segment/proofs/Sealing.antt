@@ -1,19 +1,21 @@
 -- An entry that is sealed.
-use Rattle.std.proofs.Common.{◌≡◌, ℕ, ◌+◌, ◌-◌, ◌≤◌, Bool, true, false, ◌&&◌, ◌<◌, List, [], ◌∷◌, ◌++◌, map, set, take, length, length-append, refl, sym, ap, subst, ◌∙◌, arith, ◌==◌, Option, Some, None, option_map, nat_lt, slice_get, if◌then◌else◌}
+use Rattle.std.proofs.Common.{◌≡◌, ℕ, ◌+◌, ◌-◌, ◌*◌, ◌≤◌, Bool, true, false, ◌&&◌, ◌<◌, List, [], ◌∷◌, ◌++◌, map, set, take, length, length-append, refl, sym, ap, subst, ◌∙◌, arith, ◌==◌, Option, Some, None, option_map, nat_lt, slice_get, if◌then◌else◌}
 use Rattle.tc_segment.proofs.Vocabulary.{AreReplayed, Block, Closes, Entry, Opened, IsSoundLock, IsStrict, LockView, Mutex, Opening, Record, Replays, Shown, block_in, block_of, blocks_of, entries, entry_from, finish_in, last_finish, last_of, may_begin, mutex_at_start, replayed, run_after, run_of, sealed_as, sealed_block, sealed_entry, sealed_list, shown, shown_journal, shown_open}
 use Rattle.tc_segment.proofs.Vocabulary.{with_closed, with_journal, grounds, map-append, length-set, take-map, take_all, take_more_set, slice_get_past, slice_get_within, begins, unlocks, is_only, may_adopt, is_adopted, allows_of, may_follow, Obeys, passes_on, PassesOn, Registers, nat_tests, and_parts, obeys-more, passes-more, Adopted}
+use Rattle.tc_segment.proofs.Vocabulary.{AllFit, AreParts, Fits, Contents, Global, steps_of, words_of, KeptLock, MayFollow, MayPass, Vec, count, entry_room_in, inl, inr, is_some, length-map, map-set, open_in, room_in, run_from-more, sealed_record, slice_get-map, slice_get_cases, vec_capacity, vec_len, view_of}
+use Rattle.std.proofs.lemmas.Simd.{map-map}
+use Rattle.std.proofs.Math.Seq.{map-set_same}
+use Rattle.std.proofs.lemmas.List.Elements.{All-set}
+use Rattle.std.proofs.lemmas.Option.{get_or_from_slice_get}
+use Rattle.tc_segment.specs.declared.packed.TheConstants.{MOST_WORDS}
 use Rattle.tc_turn.specs.Replay.{replay_entry}
 use Rattle.tc_journal.specs.declared.block.Kind.{Kind}
 use Rattle.tc_segment.proofs.Journals.{replayed-more}
-use Rattle.tc_segment.proofs.Keeping.{entries_are, last_at, sound_with}
-
-blocks_all : (edges : List ℕ) (words : List ℕ) (rs : List Record) → map block_in (map (shown edges words) rs) ≡ map block_of rs
-blocks_all edges words [] = refl
-blocks_all edges words (r ∷ rs) = (let e = blocks_all edges words rs in λ i. r.block ∷ e i)
+use Rattle.tc_segment.proofs.Keeping.{entries_are, fits_at, last_at, sound_with}
 
 -- the blocks of the first so many
 pub blocks_shown : (edges : List ℕ) (words : List ℕ) (n : ℕ) (rs : List Record) → map block_in (take n (map (shown edges words) rs)) ≡ map block_of (take n rs)
-blocks_shown edges words n rs = ap (map block_in) (take-map (shown edges words) n rs) ∙ blocks_all edges words (take n rs)
+blocks_shown edges words n rs = ap (map block_in) (take-map (shown edges words) n rs) ∙ map-map block_in (shown edges words) (take n rs)
 
 -- stamp and worker don't count in a replay
 replays_sealed : (image : Shown) (lock stamp worker : ℕ) (e : Entry) (old : Mutex) → Replays image lock e old → Replays image lock (sealed_entry stamp worker e) old
@@ -93,3 +95,71 @@ sealed_last stamp worker sealed None = refl
 sealed_last stamp worker sealed (Some e) =
     let x = sealed_entry stamp worker e in
     ap (option_map finish_in) (last_at sealed x (length (sealed ++ x ∷ []) - 1) (omega (arith, length-append sealed (x ∷ []))))
+
+-- ---- the lock with its closed entry sealed
+
+-- the closed entry is that of the record behind the sealed ones
+pub closed_at : (a : Contents) (r : Record) → slice_get a.records.items a.sealed ≡ Some r → (view_of a).journal.closed ≡ Some (shown a.edges.words a.words.items r)
+closed_at a r is = slice_get-map (shown a.edges.words a.words.items) a.records.items a.sealed ∙ ap (option_map (shown a.edges.words a.words.items)) is
+
+-- there is one
+pub some_closed : (a : Contents) → is_some (view_of a).journal.closed ≡ true → a.sealed < length a.records.items
+some_closed a some = elim (slice_get_cases a.records.items a.sealed).1 [
+  | inl x ↦ x.1
+  | inr y ↦ absurd (let e = ap is_some (sym (slice_get-map (shown a.edges.words a.words.items) a.records.items a.sealed ∙ ap (option_map (shown a.edges.words a.words.items)) y.1)) ∙ some in cc)
+]
+
+abbrev pub with_sealed : Contents → Vec Record Global → ℕ → Contents
+with_sealed a records run = record a { records = records; sealed = a.sealed + 1; run = run }
+
+-- these records are the old ones, but for the stamp and the worker of the closed entry's block
+pub record AreStamped (a : Contents) (stamp worker : ℕ) (r : Record) (records : Vec Record Global) : Type 0 where
+  pub is : slice_get a.records.items a.sealed ≡ Some r
+  pub items : records.items ≡ set a.records.items a.sealed (sealed_record stamp worker r)
+  pub capacity : vec_capacity records ≡ vec_capacity a.records
+
+same_count : (a : Contents) (stamp worker : ℕ) (r : Record) (records : Vec Record Global) → AreStamped a stamp worker r records → vec_len records ≡ vec_len a.records
+same_count a stamp worker r records new = omega (arith, records.ok.0, a.records.ok.0, ap length new.items, length-set a.records.items a.sealed (sealed_record stamp worker r))
+
+same_parts : (part : Record → ℕ × ℕ) (a : Contents) (stamp worker : ℕ) (r : Record) (records : Vec Record Global) (to : ℕ) → AreStamped a stamp worker r records → part (sealed_record stamp worker r) ≡ part r → AreParts 0 (map part a.records.items) to → AreParts 0 (map part records.items) to
+same_parts part a stamp worker r records to new same are =
+    subst (λ ps. AreParts 0 ps to) (sym (ap (map part) new.items ∙ map-set_same part a.records.items a.sealed (sealed_record stamp worker r) r (same ∙ ap part (sym (get_or_from_slice_get a.records.items a.sealed r r new.is))))) are
+
+pub sealed_view : (a : Contents) (records : Vec Record Global) (run stamp worker : ℕ) (r : Record) → KeptLock a → AreStamped a stamp worker r records → view_of (with_sealed a records run) ≡ with_journal (sealed_as stamp worker) (view_of a)
+sealed_view a records run stamp worker r k new =
+    let f = shown a.edges.words a.words.items in
+    let made = ap (map f) new.items ∙ map-set f a.records.items a.sealed (sealed_record stamp worker r) in
+    let j = ap (λ n. shown_journal (grounds a.of.value a.number a.limit a.strict a.edges.words a.words.items) (map f records.items) (a.sealed + 1) (open_in a.opened a.next) (a.most - n - count a.opened) (room_in a.words)) (same_count a stamp worker r records new)
+    ∙ sealed_journal a.of.value a.number a.limit a.strict (map f a.records.items) _ a.sealed a.edges.words a.words.items (open_in a.opened a.next) (entry_room_in a) (room_in a.words) stamp worker (f r) (closed_at a r new.is) (omega (arith, k.closed, length-map a.records.items f)) made in
+    λ i. record { number = a.number; bytes = a.bytes.items; broken = a.broken; sections = a.sections; journal = j i }
+
+pub sealed_kept : (a : Contents) (records : Vec Record Global) (run stamp worker : ℕ) (r : Record) → KeptLock a → AreStamped a stamp worker r records → MayFollow stamp worker (view_of a) → MayPass (view_of a)
+    → run ≡ run_after a.number a.run (sealed_block stamp worker (block_of r)) → KeptLock (with_sealed a records run)
+sealed_kept a records run stamp worker r k new may pass ran =
+    let old = view_of a in
+    let e = shown a.edges.words a.words.items r in
+    let was : old.journal.closed ≡ Some e = closed_at a r new.is in
+    let view = sealed_view a records run stamp worker r k new in
+    let b = sealed_block stamp worker (block_of r) in
+    let there : a.sealed < length a.records.items = slice_get_within a.records.items a.sealed r new.is in
+    let len = same_count a stamp worker r records new in
+    let blocks : blocks_of (view_of (with_sealed a records run)) ≡ blocks_of old ++ b ∷ [] =
+    ap blocks_of view ∙ ap (λ x. map block_in (sealed_list stamp worker old.journal.sealed x)) was ∙ map-append block_in old.journal.sealed (sealed_entry stamp worker e ∷ []) in
+    let streak : run ≡ run_after a.number (run_of a.number (blocks_of old)) b = ran ∙ ap (λ n. run_after a.number n b) k.run in
+    let fits = fits_at a.edges.words a.words.items a.records.items a.sealed r k.records new.is in
+    record {
+      sound = subst (λ (l : LockView). IsSoundLock l) (sym view) (sound_sealed stamp worker old e k.sound was (may e was) (pass e was));
+      start = k.start;
+      records = subst (λ rs. AllFit a.edges.words a.words.items rs) (sym new.items) (All-set (Fits a.edges.words a.words.items) a.records.items a.sealed _ (record { start = fits.start; finish = fits.finish; small = fits.small; inside = fits.inside }) k.records);
+      sealed = omega (arith, there, len, records.ok.0, a.records.ok.0);
+      closed = omega (arith, k.closed, len, records.ok.0, a.records.ok.0);
+      opened = k.opened;
+      from = k.from;
+      ends = λ no regs on. k.ends no regs (sym (sealed_last stamp worker old.journal.sealed old.journal.closed) ∙ ap (λ (l : LockView). last_finish l.journal.sealed l.journal.closed) (sym view) ∙ on);
+      parts = (same_parts words_of a stamp worker r records a.next.from new refl k.parts.0, same_parts steps_of a stamp worker r records a.next.before new refl k.parts.1);
+      near = k.near;
+      few = k.few;
+      run = streak ∙ sym (run_from-more a.number 0 (blocks_of old) b) ∙ ap (run_of a.number) (sym blocks);
+      short = subst (λ n. n ≤ a.limit) (sym streak) (run_short a.number a.limit (blocks_of old) b (subst (λ n. n ≤ a.limit) k.run k.short) (may e was));
+      rooms = (let edges = subst (λ n. MOST_WORDS * (2 * (a.most - n - count a.opened) + count a.opened) ≤ a.edges.room) (sym len) k.rooms.edges in record { entries = omega (arith, k.rooms.entries, len); most = omega (arith, k.rooms.most, new.capacity); edges = edges; words = k.rooms.words });
+    }

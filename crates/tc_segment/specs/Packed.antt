@@ -25,6 +25,10 @@ spread (suc n) mask xs = if mask % 2 == 1 then slice_index xs 0 ∷ spread n (ma
 unfoldable pub regs_at : List ℕ → ℕ → Registers
 regs_at edges i = record { pc = slice_index edges i; words = 0 ∷ spread 31 (slice_index edges (i + 1)) (drop (i + 2) edges) }
 
+-- the place right behind the registers at a place
+abbrev pub behind : List ℕ → ℕ → ℕ
+behind edges i = i + length (packed (regs_at edges i))
+
 -- the first so many of the words are these registers
 pub record ArePacked (words : List ℕ) (end : ℕ) (r : Registers) : Type 0 where
   pub few : end ≤ MOST_WORDS
@@ -42,6 +46,11 @@ pub record StandsAt (edges : List ℕ) (i : ℕ) (regs : Registers) : Type 0 whe
 abbrev pub IsPlace : List ℕ → ℕ → Type 0
 IsPlace edges i = StandsAt edges i (regs_at edges i)
 
+-- and none stand behind them
+pub record StandsLast (edges : List ℕ) (i : ℕ) (regs : Registers) : Type 0 where
+  pub stands : StandsAt edges i regs
+  pub last : length edges ≡ i + length (packed regs)
+
 -- what stood at a place still does
 pub record Extends (old new : List ℕ) : Type 0 where
   pub places : (i : ℕ) → IsPlace old i → IsPlace new i
@@ -52,11 +61,12 @@ pub record Edges : Type 0 where
   pub words : List ℕ
   pub room : ℕ
 
--- these registers stand at the place, beside all that stood there, and there may be room for so many words less
+-- these registers stand at the place, behind all that stood there, and there may be room for so many words less
 pub record StandsBeside (regs : Registers) (old new : Edges) (at : ℕ) : Type 0 where
-  pub place : StandsAt new.words at regs
+  pub place : StandsLast new.words at regs
   pub more : Extends old.words new.words
   pub room : old.room ≤ new.room + MOST_WORDS
+  pub behind : at ≡ length old.words
 
 -- the words are as they were, there is no less room for more, and where this went well, there is room for so many
 pub record HasReserved {E : Type 0} (count : ℕ) (old new : Edges) (went : Result (Unit {0}) E) : Type 0 where

@@ -8,16 +8,19 @@
 //!
 //! - `state`: a lock state with its calls. `entry`: an entry, borrowed from it.
 //! - `packed`: registers in few words, packed once for all locks of a block.
-//! - `at_rest`: what a lock at rest is. `record`: how entries are stored; `edges`: how their
-//!   registers are stored; `room`: how capacity for more entries is made.
+//! - `at_rest`: what a lock at rest is. `record`: how entries are stored; `draft`: what those of one
+//!   block have in common; `stamp`: stamps in halves; `edges`: how registers are stored; `room`: how
+//!   capacity for more entries is made.
 #![tactic(auto)]
 
 pub mod at_rest;
+pub mod draft;
 mod edges;
 pub mod entry;
 pub mod packed;
 mod record;
 mod room;
+mod stamp;
 pub mod state;
 
 pub use crate::entry::Entry;

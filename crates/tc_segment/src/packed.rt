@@ -2,7 +2,8 @@
 
 ghost use Rattle.std.specs.Prelude.{◌≡◌, length, drop, slice_index};
 ghost use Rattle.tc_isa.specs.Registers.{Registers};
-ghost use Rattle.tc_segment.specs.Packed.{ArePacked, IsPlace, mask_of, regs_at};
+ghost use Rattle.tc_segment.specs.Packed.{ArePacked, IsPlace, mask_of, regs_at, packed};
+ghost use Rattle.tc_segment.specs.declared.packed.TheConstants.{MOST_WORDS};
 
 use std::marker::Model;
 use std::simd::prelude::*;
@@ -45,11 +46,27 @@ impl Packed {
         self.end = pack(regs, &mut self.words);
     }
 
-    /// The words in which they are.
-    pub(crate) fn words(&self) -> &[u32]
-        ensures { ArePacked result.now (length result.now) self.now }
+    /// How many words they take.
+    pub(crate) fn count(&self) -> u32
+        ensures { result ≡ length (packed self.now) }
     {
-        &self.words[..self.end]
+        self.end as u32
+    }
+
+    /// Writes them at the front of the row, and tells where they end. What stands behind them then is
+    /// not told: one of two pieces of a fixed size is copied, which needs neither a loop nor a call.
+    pub(crate) fn write(&self, row: &mut [u32]) -> usize
+        requires { length row.old ≡ MOST_WORDS }
+        ensures { ArePacked row.new result self.now }
+    {
+        let end = self.end;
+        if end <= 8 {
+            u32x8::from_slice(&self.words).copy_to_slice(row);
+        } else {
+            u32x32::from_slice(&self.words).copy_to_slice(row);
+            row[32] = self.words[32];
+        }
+        end
     }
 }
 

@@ -2,17 +2,19 @@
 //! Pages that are not written yet take no memory of the host, and a large vector grows without a
 //! copy. The first capacity is small, since a separate allocation costs more than all entries of a
 //! small run. Each allocation is a power of two of bytes, including the two 8-byte words that an
-//! allocator keeps before it, so that large ones fill whole large pages of the host.
+//! allocator keeps before it, or less by a thousandth or so, so that large ones fill whole large
+//! pages of the host.
 
 ghost use Rattle.std.specs.Prelude.{◌≡◌, ◌<◌, ◌^◌, vec_len};
-ghost use Rattle.tc_segment.specs.Edges.{room_in};
+ghost use Rattle.tc_segment.specs.Edges.{room_in, CanHaveRow, HasRow};
 ghost use Rattle.tc_segment.specs.Kept.{HasMadeRoom, HasWordRoom};
 
+use crate::packed::MOST_WORDS;
 use crate::record::Record;
 use std::alloc::AllocError;
 
 /// How the room of a vector grows: what it is at first, what it is then at least, and for how many
-/// elements the allocator's words stand.
+/// whole elements the allocator's words stand.
 struct Growth {
     first: usize,
     more: usize,
@@ -21,9 +23,9 @@ struct Growth {
 
 /// How that of records grows.
 const RECORDS: Growth = Growth {
-    first: 511,
-    more: 8_191,
-    before: 1,
+    first: 909,
+    more: 14_563,
+    before: 0,
 };
 
 /// How that of words grows.
@@ -32,6 +34,9 @@ const WORDS: Growth = Growth {
     more: 131_068,
     before: 4,
 };
+
+/// How many words at most become zeros at once. They take memory of the host before they are used.
+const ZEROS: usize = 512;
 
 impl Growth {
     /// The room that follows upon this one.
@@ -98,4 +103,29 @@ fn grow_words(words: &mut Vec<u32>, more: usize) -> Result<(), AllocError>
     let room = WORDS.after(words.capacity());
     let least = room.saturating_sub(words.len());
     words.reserve(more.max(least))
+}
+
+/// Sees to it that as many words stand behind the end as registers take at most.
+pub(crate) fn make_row(words: &mut Vec<u32>, end: usize)
+    requires { CanHaveRow end words.old }
+    ensures { HasRow end words.old words.new }
+{
+    if words.len() - end < MOST_WORDS {
+        lengthen(words, end);
+    }
+}
+
+/// Lengthens the words by zeros, within their room.
+#[cold]
+#[inline(never)]
+fn lengthen(words: &mut Vec<u32>, end: usize)
+    requires { CanHaveRow end words.old }
+    ensures { HasRow end words.old words.new }
+{
+    let _ = end;
+    let more = room_in(words).min(ZEROS);
+    match words.resize(words.len() + more, 0) {
+        Ok(()) => {}
+        Err(_) => unreachable!(),
+    }
 }

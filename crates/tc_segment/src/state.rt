@@ -5,13 +5,16 @@ ghost use Rattle.tc_isa.specs.declared.held.TheConstants.Held.{PLACES};
 ghost use Rattle.tc_elf.specs.Places.{in_guard};
 ghost use Rattle.tc_exec.specs.Told.{IsWidth};
 ghost use Rattle.tc_journal.specs.Batch.{ends_thread, run_of};
+ghost use Rattle.tc_segment.specs.Draft.{drafted};
+ghost use Rattle.tc_segment.specs.Kept.{IsClosed};
 ghost use Rattle.tc_segment.specs.Lent.{entry_lent};
 ghost use Rattle.tc_segment.specs.View.{CanStart, IsSoundLock, allows_in, passes_in, number_of_guard, ClosesWith, MayFollow, MayPass, lock_of, guard_of, with_store, with_section, with_break, with_end, with_journal, EndedAt, HasRoomFor, opened_at, noted, closed_with, sealed_as, sealed_with, kept, strict_as, blocks_of, entries, fresh_state};
 
+use crate::draft::Draft;
 use crate::edges::Edges;
 use crate::entry::Entry;
 use crate::packed::{MOST_WORDS, Packed};
-use crate::record::{Opening, Record, last_block};
+use crate::record::{Opening, Record, last_block, sums_of};
 use crate::room::{make_records, make_words, room_in};
 use std::alloc::{AllocError, Global};
 use std::marker::Model;
@@ -54,7 +57,7 @@ struct Contents {
 ///
 /// While a block runs, its entry is open: the steps of the block change the lock and note the
 /// values that came from elsewhere. The entry is closed with the block, and sealed once the block
-/// has its stamp and worker; `close_sealed` does both at once.
+/// has its stamp and worker; `close_drafted` does both at once.
 #[derive(Drop)]
 pub struct LockState {
     contents: Box<Contents>,
@@ -129,6 +132,7 @@ impl LockState {
                 fuel: 0,
                 start: 0,
                 from: 0,
+                before: 0,
             },
             edges: Edges::new(alloc),
             words: Vec::new(alloc),
@@ -201,7 +205,9 @@ impl LockState {
         ensures { slice_get (entries self.now.journal) i ≡ Some (entry_lent result) }
     {
         let contents = &*self.contents;
-        contents.records[i].entry(&contents.edges, &contents.words)
+        let record = &contents.records[i];
+        let sums = sums_of(&contents.records[..i]);
+        record.entry(&sums, &contents.edges, &contents.words)
     }
 
     /// Whether the batch rule allows the next section to have this kind, and its first block this
@@ -375,7 +381,7 @@ impl LockState {
     {
         let _ = image;
         self.break_at(block.end);
-        self.close(block, end);
+        self.close(block, &Draft::of(block), end);
     }
 
     /// Breaks the lock where a block with this end ended its thread.
@@ -388,25 +394,25 @@ impl LockState {
         }
     }
 
-    /// Closes the open entry of a lock that is as the block's end leaves it.
-    fn close(&mut self, block: &Block, end: &Packed)
+    /// Closes the open entry of a lock that is as the block's end leaves it, with a record made from
+    /// the block's draft.
+    fn close(&mut self, block: &Block, draft: &Draft, end: &Packed)
+        requires draft { draft.now ≡ drafted block.now }
         requires opened { is_some self.old.journal.opened ≡ true }
         requires ended { ends_thread block.now.end ≡ true → self.old.broken ≡ true }
         requires closes { ClosesWith block.now end.now self.old }
         ensures { self.new ≡ with_journal (closed_with block.now end.now) self.old }
     {
+        let _ = block;
         let contents = &mut *self.contents;
         let finish = contents.edges.note(end);
+        let start = contents.next.start;
+        let step = (start - contents.next.before) as u8;
         let to = contents.words.len() as u32;
-        let record = Record {
-            block: *block,
-            fuel: contents.next.fuel,
-            start: contents.next.start,
-            finish,
-            from: contents.next.from,
-            to,
-        };
+        let words = (to - contents.next.from) as u16;
+        let record = Record::of(draft, &contents.next, step, words);
         contents.records.push_reserved(record);
+        contents.next.before = start;
         contents.next.start = finish;
         contents.next.from = to;
         contents.opened = false;
@@ -422,12 +428,26 @@ impl LockState {
         let contents = &mut *self.contents;
         let record = &mut contents.records[contents.sealed];
         record.stamp(stamp, worker);
-        contents.run = run_after(contents.number, contents.run, &record.block);
+        contents.run = run_after(contents.number, contents.run, &record.block());
         contents.sealed += 1;
     }
+
+    /// Seals the closed entry, whose block has its stamp and worker.
+    fn count(&mut self, block: &Block)
+        requires closed { IsClosed block.now self.old }
+        requires follows { MayFollow block.now.stamp block.now.worker self.old }
+        requires passes { MayPass self.old }
+        ensures { self.new ≡ with_journal (sealed_as block.now.stamp block.now.worker) self.old }
+    {
+        let contents = &mut *self.contents;
+        contents.run = run_after(contents.number, contents.run, block);
+        contents.sealed += 1;
+    }
+
     /// Closes the open entry with a block that has its stamp and worker, and seals it. The lock is as the
-    /// block's end leaves it.
-    pub fn close_sealed(&mut self, block: &Block, end: &Packed)
+    /// block's end leaves it. The draft is made once for all locks of the block.
+    pub fn close_drafted(&mut self, block: &Block, draft: &Draft, end: &Packed)
+        requires draft { draft.now ≡ drafted block.now }
         requires opened { is_some self.old.journal.opened ≡ true }
         requires ended { ends_thread block.now.end ≡ true → self.old.broken ≡ true }
         requires closes { ClosesWith block.now end.now self.old }
@@ -436,7 +456,7 @@ impl LockState {
         requires passes { MayPass (with_journal (closed_with block.now end.now) self.old) }
         ensures { self.new ≡ with_journal (sealed_with block.now end.now) self.old }
     {
-        self.close(block, end);
-        self.seal(block.stamp, block.worker);
+        self.close(block, draft, end);
+        self.count(block);
     }
 }

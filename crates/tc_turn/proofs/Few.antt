@@ -1,19 +1,15 @@
 -- How many locks a thread holds.
-use Rattle.std.proofs.Common.{◌≡◌, ℕ, zero, suc, ◌+◌, ◌<◌, ◌≤◌, Bool, true, false, cond, not, ◌||◌, ◌&&◌, ◌==◌, List, [], ◌∷◌, length, filter, refl, sym, ap, subst, ◌∙◌, inl, inr, arith, Some, None, if◌then◌else◌}
-use Rattle.tc_turn.proofs.Vocabulary.{eqb_tells, leb_tells, Shown, Registers, get, MAX_HELD, has_lock, holds_most, is_above_held, lock_fault, act_of, Thread, next_lock, plus_lock, range_with_len, has, locks_of, Called, Lock}
+use Rattle.std.proofs.Common.{◌≡◌, ℕ, zero, suc, ◌+◌, ◌<◌, ◌≤◌, Bool, true, false, cond, not, ◌||◌, ◌&&◌, ◌==◌, List, [], ◌∷◌, length, filter, sym, ap, subst, ◌∙◌, inl, inr, arith, Some, None}
+use Rattle.tc_turn.proofs.Vocabulary.{eqb_tells, leb_tells, Shown, Registers, get, MAX_HELD, holds_most, lock_fault, act_of, Thread, next_lock, plus_lock, range_with_len, has, locks_of, Called, Lock}
 use Rattle.tc_isa.specs.declared.fault.Fault.TheVariants as fault
 use Rattle.tc_exec.specs.Told.{IsNoLock, taken_by}
 use Rattle.tc_exec.proofs.NoLock.{never, taken_some}
 use Rattle.tc_turn.proofs.Turns.{next_some}
 use Rattle.tc_lemmas.proofs.Tests.{eq_self}
 
--- ---- how many pass a test
-
+-- how many pass a test
 counted : (m : ℕ) (v w : Bool) (x : ℕ) (xs ys : List ℕ) → (v ≡ true → w ≡ true) → length xs ≤ length ys + m → length (cond v (x ∷ xs) xs) ≤ length (cond w (x ∷ ys) ys) + m
-counted m true true x xs ys into few = omega (arith, few)
-counted m true false x xs ys into few = absurd (let n = into refl in cc)
-counted m false true x xs ys into few = omega (arith, few)
-counted m false false x xs ys into few = few
+counted m v w x xs ys into few = grind arith
 
 -- what passes the one passes the other
 pub fewer : (p q : ℕ → Bool) → ((k : ℕ) → p k ≡ true → q k ≡ true) → (xs : List ℕ) → length (filter p xs) ≤ length (filter q xs)
@@ -21,21 +17,13 @@ fewer p q into [] = omega arith
 fewer p q into (x ∷ xs) = (let few = fewer p q into xs in let both = counted 0 (p x) (q x) x (filter p xs) (filter q xs) (into x) (omega arith) in omega arith)
 
 one_longer : (v w : Bool) (x : ℕ) (xs ys : List ℕ) → length xs ≤ length ys → length (cond v (x ∷ xs) xs) ≤ length (cond w (x ∷ ys) ys) + 1
-one_longer true true x xs ys few = omega (arith, few)
-one_longer true false x xs ys few = omega (arith, few)
-one_longer false true x xs ys few = omega (arith, few)
-one_longer false false x xs ys few = omega (arith, few)
+one_longer v w x xs ys few = grind arith
 
 one_shorter : (v w : Bool) (x : ℕ) (xs ys : List ℕ) → v ≡ false → w ≡ true → length xs ≤ length ys → length (cond v (x ∷ xs) xs) + 1 ≤ length (cond w (x ∷ ys) ys)
-one_shorter false true x xs ys out in_it few = omega (arith, few)
-one_shorter true w x xs ys out in_it few = absurd (cc)
-one_shorter false false x xs ys out in_it few = absurd (cc)
+one_shorter v w x xs ys out in_it few = grind arith
 
 still_shorter : (v w : Bool) (x : ℕ) (xs ys : List ℕ) → (v ≡ true → w ≡ true) → length xs + 1 ≤ length ys → length (cond v (x ∷ xs) xs) + 1 ≤ length (cond w (x ∷ ys) ys)
-still_shorter true true x xs ys into few = omega (arith, few)
-still_shorter true false x xs ys into few = absurd (let n = into refl in cc)
-still_shorter false true x xs ys into few = omega (arith, few)
-still_shorter false false x xs ys into few = few
+still_shorter v w x xs ys into few = grind arith
 
 -- with one more at most
 past_one : (p : ℕ → Bool) (i a n : ℕ) → i < a → length (filter (plus_lock p i) (range_with_len a n)) ≤ length (filter p (range_with_len a n))
@@ -72,20 +60,15 @@ less_few held rest i each mine small = one_less (has rest) (has held) i 0 32 (λ
     right true b e = e
     right false b e = absurd (cc)
 
--- ---- a thread that holds as many locks as it may takes none
-
 most_fault : (image : Shown) (held : ℕ → Bool) (lock : ℕ) → holds_most held ≡ true → lock_fault image held lock ≡ Some fault.BadLock
-most_fault image held lock most = elim (has_lock image lock) as (λ b. (if not b then Some fault.BadLock else if holds_most held then Some fault.BadLock else if is_above_held held lock then None else Some fault.LockOrder) ≡ Some fault.BadLock) [
-  | true ↦ rw most refl
-  | false ↦ refl
-]
+most_fault image held lock most = grind arith
 
+-- a thread that holds as many locks as it may takes none
 takes_none : (image : Shown) (held : ℕ → Bool) (r : Registers) (answer lock : ℕ) (next : Registers) → holds_most held ≡ true → act_of image held r answer ≡ Called (Lock lock) next → ⊥
 takes_none image held r answer lock next most e = subst IsNoLock e (never image r (λ calls.
     (let none : None ≡ Some lock = sym (taken_some image held r (Some fault.BadLock) calls (most_fault image held (get r 10) most) answer) ∙ ap taken_by e in cc)) held answer)
 
--- ---- a thread that takes a lock holds less than it may
-
+-- a thread that takes a lock holds less than it may
 pub takes_below : (image : Shown) (d : Thread) (lock : ℕ) → next_lock image d ≡ Some lock → length (filter d.held (range_with_len 0 32)) < MAX_HELD
 unfolding holds_most
 takes_below image d lock e = elim (leb_tells MAX_HELD (length (filter d.held (range_with_len 0 32)))) [

@@ -1,13 +1,12 @@
 -- A thread's own memory, kept in parts, is a map from addresses to bytes.
-use Rattle.tc_turn.proofs.Vocabulary.{◌≡◌, ◌≢◌, ℕ, zero, suc, ◌+◌, ◌-◌, ◌/◌, ◌%◌, ◌<◌, ◌≤◌, ◌==◌, Bool, true, false, All, List, [], ◌∷◌, ◌++◌, length, map, set, get_or, replicate, refl, sym, ap, subst, ◌∙◌, arith, inl, inr, if◌then◌else◌, nat_le, slice_get, Option, Some, None, unwrap_or, eqb_tells, leb_tells, nat_tests, slice_get-get_or, get_or-replicate, length-replicate, ext_get_or, Shown}
-use Rattle.tc_turn.proofs.Vocabulary.{lies_in, in_writable, touches, byte_of, own_region, stack_start, stack_length, with_byte, with_number, byte_from, put_byte, part_with, Part, own_of, own_bytes, starting_byte, starting_bytes, own_at_start, Region, option_map, option_or, no_part, with_piece, AreApart, list_any, length-map-range_with_len, get_or-map-range_with_len}
+use Rattle.tc_turn.proofs.Vocabulary.{◌≡◌, ◌≢◌, ℕ, zero, suc, ◌+◌, ◌-◌, ◌/◌, ◌%◌, ◌<◌, ◌≤◌, ◌==◌, true, false, All, List, [], ◌∷◌, ◌++◌, length, map, set, get_or, refl, sym, ap, subst, ◌∙◌, arith, inl, inr, if◌then◌else◌, slice_get, Option, Some, None, unwrap_or, leb_tells, slice_get-get_or, get_or-replicate, length-replicate, ext_get_or, Shown}
+use Rattle.tc_turn.proofs.Vocabulary.{byte_of, own_region, with_byte, with_number, byte_from, put_byte, part_with, Part, own_of, own_bytes, starting_byte, starting_bytes, own_at_start, Region, option_map, option_or, no_part, with_piece, AreApart, length-map-range_with_len, get_or-map-range_with_len}
 use Rattle.std.proofs.lemmas.List.Elements.{All-push}
 use Rattle.std.proofs.lemmas.List.Quantifiers.{all_pairs_push}
 use Rattle.tc_elf.specs.declared.image.Region.TheVariants as region
-use Rattle.tc_turn.proofs.PartLaws.{byte_away, none_has, or_none}
+use Rattle.tc_turn.proofs.PartLaws.{none_has, or_none}
 
--- ---- one byte in a list of bytes
-
+-- one byte in a list of bytes
 get_same : (bytes : List ℕ) (i value : ℕ) → slice_get (set bytes i value) i ≡ option_map (λ old. value) (slice_get bytes i)
 get_same [] i value = refl
 get_same (b ∷ bytes) zero value = refl
@@ -22,33 +21,15 @@ get_other (b ∷ bytes) (suc i) (suc k) value ne = get_other bytes i k value (λ
 
 -- a byte that is put among the bytes from a start on
 pub byte_from-put : (start : ℕ) (bytes : List ℕ) (at value k : ℕ) → byte_from start (put_byte start bytes at value) k ≡ with_byte (byte_from start bytes) at value k
-byte_from-put start bytes at value k = elim (leb_tells start at) [
-  | inl low ↦ rw (low.0) (elim (eqb_tells k at) [
-    | inl here ↦ rw (here.0, here.1, low.0) (get_same bytes (at - start) value)
-    | inr there ↦ rw (there.0) (elim (leb_tells start k) [
-      | inl from ↦ rw (from.0) (get_other bytes (at - start) (k - start) value (let ne : k ≢ at = there.1 in omega arith))
-      | inr below ↦ rw (below.0) refl
-    ])
-  ])
-  | inr high ↦ rw (high.0) (elim (eqb_tells k at) [ inl here ↦ rw (here.0, here.1, high.0) refl | inr there ↦ rw (there.0) refl ])
-]
+byte_from-put start bytes at value k = grind (arith, get_same, get_other)
 
--- ---- one byte in the parts
-
+-- one byte is put in a part
 abbrev byte_part : ℕ → ℕ → Part → Part
 byte_part at value p = record { start = p.start; bytes = put_byte p.start p.bytes at value }
 
-or_byte : (a b : Option ℕ) (value : ℕ) → option_or (option_map (λ old. value) a) (option_map (λ old. value) b) ≡ option_map (λ old. value) (option_or a b)
-or_byte None b value = refl
-or_byte (Some x) b value = refl
-
 -- a byte that is put into each of two memories is put into both
 or_with_byte : (a b : ℕ → Option ℕ) (at value k : ℕ) → option_or (with_byte a at value k) (with_byte b at value k) ≡ with_byte (λ k. option_or (a k) (b k)) at value k
-or_with_byte a b at value k =
-    elim (k == at) as (λ t. option_or (if t then option_map (λ old. value) (a k) else a k) (if t then option_map (λ old. value) (b k) else b k) ≡ (if t then option_map (λ old. value) (option_or (a k) (b k)) else option_or (a k) (b k))) [
-      | true ↦ or_byte (a k) (b k) value
-      | false ↦ refl
-    ]
+or_with_byte a b at value k = grind arith
 
 own_of-put : (parts : List Part) (at value k : ℕ) → own_of (map (byte_part at value) parts) k ≡ with_byte (own_of parts) at value k
 own_of-put [] at value k = elim (k == at) as (λ b. None ≡ (if b then option_map {T = ℕ} (λ old. value) None else None)) [ true ↦ refl | false ↦ refl ]
@@ -57,8 +38,7 @@ own_of-put (p ∷ parts) at value k =
     ∙ ap (option_or (with_byte (byte_from p.start p.bytes) at value k)) (own_of-put parts at value k)
     ∙ or_with_byte (byte_from p.start p.bytes) (own_of parts) at value k
 
--- ---- a number in the parts
-
+-- a number of no bytes changes no part
 map_same : (parts : List Part) (at value : ℕ) → map (part_with at 0 value) parts ≡ parts
 map_same [] at value = refl
 map_same (p ∷ parts) at value = ap (λ ps. p ∷ ps) (map_same parts at value)
@@ -75,8 +55,7 @@ parts_put parts at (suc n) value =
     ∙ parts_put (map (byte_part at (value % 256)) parts) (at + 1) n (value / 256)
     ∙ ap (λ m. with_number m (at + 1) n (value / 256)) (λ i k. own_of-put parts at (value % 256) k i)
 
--- ---- at the start
-
+-- how many bytes there are at the start
 length_starting : (image : Shown) (start n : ℕ) → length (starting_bytes image start n) ≡ n
 length_starting image start n = length-map-range_with_len (starting_byte image) start n
 
@@ -96,14 +75,7 @@ own_byte image _ at = None
 
 own_at_start_is : (image : Shown) (at : ℕ) → own_at_start image at ≡ own_byte image (own_region image at) at
 unfolding own_at_start
-own_at_start_is image at = by (list_any (touches at 1) image.guards) (list_any (in_writable at 1) image.ranges) (lies_in at 1 stack_start stack_length)
-  where
-    by : (t w s : Bool) → (if t then None else option_or (if w then Some (starting_byte image at) else None) (if s then Some 0 else None))
-        ≡ own_byte image (if t then region.Nothing else if w then region.Private else if s then region.Stack else region.Nothing) at
-    by true w s = refl
-    by false true s = refl
-    by false false true = refl
-    by false false false = refl
+own_at_start_is image at = grind arith
 
 -- bytes that stand from a start on, if there are any
 abbrev byte_by : ℕ → Option (List ℕ) → ℕ → Option ℕ
@@ -115,22 +87,13 @@ AreFew n None = Unit {0}
 AreFew n (Some bytes) = length bytes ≤ n
 
 byte_there : (start : ℕ) (bytes : List ℕ) (at value : ℕ) → start ≤ at → at < start + length bytes → get_or bytes (at - start) 0 ≡ value → byte_from start bytes at ≡ Some value
-byte_there start bytes at value low high is =
-    let from : nat_le start at ≡ true = grind (arith, nat_tests) in
-    rw (from) (slice_get-get_or bytes (at - start) 0 (omega arith) ∙ ap Some is)
+byte_there start bytes at value low high is = grind (arith, slice_get-get_or)
 
 bytes_are : (image : Shown) (r : Region) (start n at : ℕ) → start ≤ at → at < start + n → byte_by start (own_bytes image r start n) at ≡ own_byte image r at
-bytes_are image region.Private start n at low high =
-    byte_there start (starting_bytes image start n) at (starting_byte image at) low (let e = length_starting image start n in omega arith)
-    (get_or-map-range_with_len (starting_byte image) start n (at - start) at 0 (omega arith) (omega arith))
-bytes_are image region.Stack start n at low high =
-    byte_there start (replicate n 0) at 0 low (let e = length-replicate {A = ℕ} n 0 in omega arith) (get_or-replicate {A = ℕ} n (at - start) 0 0 (omega arith))
-bytes_are image _ start n at low high = refl
+bytes_are image r start n at low high = grind (arith, byte_there, length_starting, get_or-map-range_with_len, length-replicate, get_or-replicate)
 
 are_few : (image : Shown) (r : Region) (start n : ℕ) → AreFew n (own_bytes image r start n)
-are_few image region.Private start n = (let e = length_starting image start n in omega arith)
-are_few image region.Stack start n = (let e = length-replicate {A = ℕ} n 0 in omega arith)
-are_few image _ start n = tt
+are_few image r start n = grind (arith, length_starting, length-replicate)
 
 own_of-append : (parts : List Part) (p : Part) (at : ℕ) → own_of (parts ++ p ∷ []) at ≡ option_or (own_of parts at) (byte_from p.start p.bytes at)
 own_of-append [] p at = or_none (byte_from p.start p.bytes at)
@@ -143,21 +106,16 @@ own_of-append (q ∷ parts) p at =
     assoc (Some x) b c = refl
 
 own_of-with : (parts : List Part) (start : ℕ) (o : Option (List ℕ)) (at : ℕ) → own_of (with_piece parts start o) at ≡ option_or (own_of parts at) (byte_by start o at)
-own_of-with parts start None at = sym (or_none (own_of parts at))
-own_of-with parts start (Some bytes) at = own_of-append parts (record { start = start; bytes = bytes }) at
+own_of-with parts start o at = grind (arith, own_of-append)
 
 before : (start : ℕ) (o : Option (List ℕ)) (at : ℕ) → at < start → byte_by start o at ≡ None
-before start None at low = refl
-before start (Some bytes) at low = byte_away (record { start = start; bytes = bytes }) at (inl (omega arith))
+before start o at low = grind arith
 
 -- the parts of the addresses before one
 pub record AreMade (image : Shown) (parts : List Part) (end : ℕ) : Type 0 where
   pub own : (at : ℕ) → at < end → own_of parts at ≡ own_at_start image at
   pub low : All (λ p. p.start + length p.bytes ≤ end) parts
   pub apart : AreApart parts
-
-pub none_made : (image : Shown) → AreMade image [] 0
-none_made image = record { own = λ at below. absurd (omega arith); low = λ k d below. absurd (omega arith); apart = λ i j d first below. absurd (omega arith) }
 
 none_yet : (image : Shown) (parts : List Part) (end at : ℕ) → AreMade image parts end → end ≤ at → own_of parts at ≡ None
 none_yet image parts end at made past = none_has parts at (λ j known. inr (let low = made.low j no_part known in omega arith))

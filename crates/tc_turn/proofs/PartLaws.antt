@@ -1,27 +1,22 @@
 -- A thread's own memory: an access whose bytes one part has is read and written in that part.
-use Rattle.std.proofs.Common.{◌≡◌, ◌≢◌, ◌⊎◌, ℕ, zero, suc, ◌+◌, ◌-◌, ◌/◌, ◌%◌, ◌<◌, ◌≤◌, true, List, [], ◌∷◌, length, map, set, refl, sym, ap, ◌∙◌, arith, inl, inr, Option, Some, None, Vec, unwrap_or}
+use Rattle.std.proofs.Common.{◌≡◌, ◌≢◌, ◌⊎◌, ℕ, zero, suc, ◌+◌, ◌-◌, ◌/◌, ◌%◌, ◌<◌, ◌≤◌, true, List, [], ◌∷◌, length, map, set, refl, sym, ap, ◌∙◌, arith, inl, inr, Option, None, Vec, unwrap_or}
 use Rattle.std.specs.Vec.{with_items}
 use Rattle.tc_turn.proofs.Vocabulary.{leb_tells, nat_tests, slice_get_past, length-set, length-map, set_past, get_or-map, with_items_is, Part, number_at, byte_from, put_byte, put_number, part_with, own_of, and_parts, option_or, no_part, part_at, part_has, AreApart}
 use Rattle.tc_turn.proofs.Numbers.{number_same}
 
--- ---- parts that have none of some addresses
-
+-- parts that have none of some addresses
 abbrev pub IsAway : ℕ → ℕ → Part → Type 0
 IsAway addr n p = (addr + n ≤ p.start) ⊎ (p.start + length p.bytes ≤ addr)
 
 pub byte_away : (p : Part) (at : ℕ) → IsAway at 1 p → byte_from p.start p.bytes at ≡ None
-byte_away p at away = elim (leb_tells p.start at) [
-  | inl low ↦ rw (low.0) (slice_get_past p.bytes (at - p.start) (elim away [ inl below ↦ absurd (let l = low.1 in omega arith) | inr above ↦ omega arith ]))
-  | inr high ↦ rw (high.0) refl
-]
+byte_away p at away = grind (arith, slice_get_past)
 
 pub none_has : (parts : List Part) (at : ℕ) → ((j : ℕ) → j < length parts → IsAway at 1 (part_at parts j)) → own_of parts at ≡ None
 none_has [] at away = refl
 none_has (p ∷ parts) at away = rw (byte_away p at (away 0 (omega arith))) (none_has parts at (λ j below. away (suc j) (omega arith)))
 
 pub or_none : (o : Option ℕ) → option_or o None ≡ o
-or_none None = refl
-or_none (Some x) = refl
+or_none o = grind arith
 
 one_has : (parts : List Part) (i at : ℕ) → ((j : ℕ) → j < length parts → j ≢ i → IsAway at 1 (part_at parts j)) → own_of parts at ≡ byte_from (part_at parts i).start (part_at parts i).bytes at
 one_has [] i at away = sym (byte_away no_part at (inr (omega arith)))
@@ -32,8 +27,7 @@ one_has (p ∷ parts) (suc i) at away =
     rw (byte_away p at (away 0 (omega arith) (omega arith)))
     (one_has parts i at (λ j below ne. away (suc j) (omega arith) (omega arith)))
 
--- ---- the part that has all of some addresses
-
+-- beside the part that has all of some addresses, the others have none of them
 others_away : (parts : List Part) (i addr n j : ℕ) → AreApart parts → i < length parts → part_has addr n (part_at parts i) ≡ true
     → j < length parts → j ≢ i → IsAway addr n (part_at parts j)
 others_away parts i addr n j apart known has below ne =
@@ -45,21 +39,15 @@ others_away parts i addr n j apart known has below ne =
 
 own_there : (parts : List Part) (i addr n at : ℕ) → AreApart parts → i < length parts → part_has addr n (part_at parts i) ≡ true → addr ≤ at → at < addr + n
     → own_of parts at ≡ byte_from (part_at parts i).start (part_at parts i).bytes at
-own_there parts i addr n at apart known has low high =
-    let here : part_has at 1 (part_at parts i) ≡ true = grind (arith, nat_tests, and_parts) in
-    one_has parts i at (λ j below ne. others_away parts i at 1 j apart known here below ne)
+own_there parts i addr n at apart known has low high = grind (arith, one_has, others_away)
 
 pub number_there : (parts : List Part) (i addr n : ℕ) → AreApart parts → i < length parts → part_has addr n (part_at parts i) ≡ true
     → number_at (λ at. unwrap_or (byte_from (part_at parts i).start (part_at parts i).bytes at) 0) addr n ≡ number_at (λ at. unwrap_or (own_of parts at) 0) addr n
 number_there parts i addr n apart known has = number_same _ _ addr n (λ at low high. ap (λ o. unwrap_or o 0) (sym (own_there parts i addr n at apart known has low high)))
 
--- ---- a store
-
+-- a store at another place changes no byte
 put_away : (start : ℕ) (bytes : List ℕ) (at value : ℕ) → (at < start) ⊎ (start + length bytes ≤ at) → put_byte start bytes at value ≡ bytes
-put_away start bytes at value away = elim (leb_tells start at) [
-  | inl low ↦ rw (low.0) (set_past bytes (at - start) value (elim away [ inl below ↦ absurd (omega arith) | inr above ↦ omega arith ]))
-  | inr high ↦ rw (high.0) refl
-]
+put_away start bytes at value away = grind (arith, set_past)
 
 number_away : (start : ℕ) (bytes : List ℕ) (addr n value : ℕ) → (addr + n ≤ start) ⊎ (start + length bytes ≤ addr) → put_number start bytes addr n value ≡ bytes
 number_away start bytes addr zero value away = refl
@@ -90,8 +78,7 @@ pub put_there : (parts : List Part) (i addr n value : ℕ) → AreApart parts �
 put_there parts i addr n value apart known has =
     map_one (part_with addr n value) parts i (λ j below ne. part_away (part_at parts j) addr n value (others_away parts i addr n j apart known has below ne))
 
--- ---- parts after a store
-
+-- a store leaves how many bytes there are
 length_byte : (start : ℕ) (bytes : List ℕ) (at value : ℕ) → length (put_byte start bytes at value) ≡ length bytes
 length_byte start bytes at value = elim (leb_tells start at) [ inl low ↦ rw (low.0) (length-set bytes (at - start) value) | inr high ↦ rw (high.0) refl ]
 

@@ -1,33 +1,20 @@
 -- A turn reads its thread and the locks that it holds or takes, and leaves the others alone.
-use Rattle.tc_turn.proofs.Vocabulary.{◌≡◌, ◌≢◌, ◌⊎◌, ℕ, ◌<◌, Bool, true, false, length, ◌==◌, refl, sym, ap, ◌∙◌, arith, inl, inr, if◌then◌else◌, unwrap_or, Option, Some, None, eqb_tells, nat_tests, Shown, guard_at, number_at, byte_from, false_from_ne_true, Registers, MAX_TURNS, Region, answered, wants_of, act_of, Act, Want, guard_is_held, put_is_held, unlock_is_held, lock_is_free}
-use Rattle.tc_turn.proofs.Vocabulary.{lock_wants_nothing, Thread, Mutex, taken_by, next_lock, byte_at, lock_answer, answer_to, act_with, next_act, outcome_of, thread_after, mutex_after, guard_with, when, with_own, Covers, Next, Called, Lock, Unlock, Sleep}
+use Rattle.tc_turn.proofs.Vocabulary.{◌≡◌, ◌≢◌, ◌⊎◌, ℕ, ◌<◌, Bool, true, false, length, ◌==◌, refl, ap, arith, inl, inr, if◌then◌else◌, Option, Some, None, Shown, number_at, Registers, MAX_TURNS, Region, answered, wants_of, act_of, Act, Want, guard_is_held, put_is_held, unlock_is_held, lock_is_free}
+use Rattle.tc_turn.proofs.Vocabulary.{lock_wants_nothing, Thread, Mutex, taken_by, next_lock, byte_at, lock_answer, answer_to, act_with, next_act, outcome_of, thread_after, mutex_after, with_own, Covers, Next, Called, Lock, Unlock}
 use Rattle.tc_elf.specs.declared.image.Region.TheVariants as region
 use Rattle.tc_exec.specs.declared.outcome.Put.{Put}
 use Rattle.tc_exec.specs.declared.outcome.Want.TheVariants as want
 use Rattle.tc_journal.specs.Rule.{end_rule}
 use Rattle.tc_journal.specs.declared.rule.Outcome.TheVariants as outcome
 
--- ---- the lock that the next turn takes
-
-some_same : (a b : Act) → Some a ≡ Some b → a ≡ b
-some_same a b e = cc
-
-taken_is : (a : Act) (k : ℕ) (regs : Registers) → a ≡ Called (Lock k) regs → taken_by a ≡ Some k
-taken_is a k regs e = rw e refl
-
 pub taken_was : (a : Act) (k : ℕ) → taken_by a ≡ Some k → (regs : Registers) × (a ≡ Called (Lock k) regs)
-taken_was (Called (Lock j) regs) k e = (regs, (let same : j ≡ k = cc in ap (λ x. Called (Lock x) regs) same))
-taken_was _ k e = absurd (cc)
+taken_was a k e = grind arith
 
 pub next_some : (image : Shown) (d : Thread) (k : ℕ) → next_lock image d ≡ Some k → (regs : Registers) × (act_of image d.held d.regs 0 ≡ Called (Lock k) regs)
 unfolding next_lock
-next_some image d k =
-    elim (d.fuel == 0) as (λ b. (if b then None else taken_by (act_of image d.held d.regs 0)) ≡ Some k → (regs : Registers) × (act_of image d.held d.regs 0 ≡ Called (Lock k) regs)) [
-      | true ↦ λ e. absurd (cc)
-      | false ↦ λ e. taken_was (act_of image d.held d.regs 0) k e
-    ]
+next_some image d k = grind arith
 
--- it is one of the image's, and is not held
+-- the lock that the next turn takes is one of the image's, and is not held
 pub next_known : (image : Shown) (d : Thread) (k : ℕ) → next_lock image d ≡ Some k → k < length image.guards
 next_known image d k e = (let was = next_some image d k e in (lock_is_free image d.held d.regs 0 was.0 k was.1).known)
 
@@ -50,27 +37,16 @@ next_fueled image d lock = elim (d.fuel == 0) as (λ b. (if b then None else tak
 
 -- and does the LOCK at every answer
 pub next_acts : (image : Shown) (d : Thread) (lock answer : ℕ) → next_lock image d ≡ Some lock → act_with image d answer ≡ Some (Called (Lock lock) (answered d.regs answer))
-next_acts image d lock answer next =
-    let was = next_some image d lock next in
-    ap (λ b. if b then None else Some (act_of image d.held d.regs answer)) (next_fueled image d lock next)
-    ∙ ap Some ((lock_is_free image d.held d.regs 0 was.0 lock was.1).anyway answer)
+next_acts image d lock answer next = grind (arith, next_some, next_fueled, lock_is_free)
 
--- ---- what the next turn does
-
+-- what the next turn does
 pub act_some : (image : Shown) (d : Thread) (answer : ℕ) (a : Act) → act_with image d answer ≡ Some a → act_of image d.held d.regs answer ≡ a
-act_some image d answer a =
-    elim (d.fuel == 0) as (λ b. (if b then None else Some (act_of image d.held d.regs answer)) ≡ Some a → act_of image d.held d.regs answer ≡ a) [ true ↦ λ e. cc | false ↦ λ e. some_same _ _ e ]
+act_some image d answer a = grind arith
 
 -- a turn that takes a lock is one whose next lock it was, at every answer
 pub act_takes : (image : Shown) (d : Thread) (answer k : ℕ) (regs : Registers) → act_with image d answer ≡ Some (Called (Lock k) regs) → next_lock image d ≡ Some k
 unfolding next_lock
-act_takes image d answer k regs =
-    elim (d.fuel == 0) as (λ b. (if b then None else Some (act_of image d.held d.regs answer)) ≡ Some (Called (Lock k) regs) → (if b then None else taken_by (act_of image d.held d.regs 0)) ≡ Some k) [
-      | true ↦ λ e. cc
-      | false ↦ λ e. taken_is _ k (answered d.regs 0) ((lock_is_free image d.held d.regs answer regs k (some_same _ _ e)).anyway 0)
-    ]
-
--- ---- a lock that a turn leaves alone
+act_takes image d answer k regs = grind (arith, lock_is_free)
 
 -- lock k is not touched by what a thread with these locks does
 pub record Untouched (held : ℕ → Bool) (a : Option Act) (k : ℕ) : Type 0 where
@@ -79,42 +55,20 @@ pub record Untouched (held : ℕ → Bool) (a : Option Act) (k : ℕ) : Type 0 w
   pub lock : (regs : Registers) → a ≢ Some (Called (Lock k) regs)
   pub unlock : (regs : Registers) (lock : ℕ) → a ≡ Some (Called (Unlock lock) regs) → held lock ≡ true
 
-pub when_not : (k lock : ℕ) (new old : Mutex) → k ≢ lock → when (k == lock) new old ≡ old
-when_not k lock new old ne = elim (eqb_tells k lock) [ inl h ↦ absurd (ne h.1) | inr h ↦ rw h.0 ]
-
-apart : (held : ℕ → Bool) (k lock : ℕ) → held k ≡ false → held lock ≡ true → k ≢ lock
-apart held k lock out is e = (let o : held lock ≡ false = ap held (sym e) ∙ out in cc)
-
-guard_still : (image : Shown) (held : ℕ → Bool) (place : Region) (k : ℕ) (l : Mutex) (addr width value : ℕ) → held k ≡ false → ((lock : ℕ) → place ≡ region.Guard lock → held lock ≡ true) → guard_with image place k l addr width value ≡ l
-guard_still image held (region.Guard lock) k l addr width value out is = when_not k lock _ l (apart held k lock out (is lock refl))
-guard_still image held _ k l addr width value out is = refl
-
 mutex_still : (image : Shown) (t : ℕ) (held : ℕ → Bool) (a : Option Act) (k : ℕ) (l : Mutex) → Untouched held a k → mutex_after image t held a k l ≡ l
-mutex_still image t held (Some (Next regs None)) k l u = refl
-mutex_still image t held (Some (Next regs (Some put))) k l u = guard_still image held put.region k l put.addr put.width put.value u.out (λ lock e. u.put regs put lock refl e)
-mutex_still image t held (Some (Called (Lock lock) regs)) k l u = when_not k lock _ l (λ e. u.lock regs (rw e refl))
-mutex_still image t held (Some (Called (Unlock lock) regs)) k l u = when_not k lock _ l (apart held k lock u.out (u.unlock regs lock refl))
-mutex_still image t held (Some (Called (Sleep n) regs)) k l u = refl
-mutex_still image t held _ k l u = rw u.out refl
+mutex_still image t held a k l u = grind arith
 
 untouched : (image : Shown) (set : ℕ → Bool) (d : Thread) (answer k : ℕ) → Covers image set d → set k ≡ false → Untouched d.held (act_with image d answer) k
-untouched image set d answer k covers out = record {
-  out = false_from_ne_true (d.held k) (λ h. let s = covers.held k h in cc);
-  put = λ regs put lock e place. put_is_held image d.held d.regs answer regs put lock (act_some image d answer _ e) place;
-  lock = λ regs e. let s = covers.next k (act_takes image d answer k regs e) in cc;
-  unlock = λ regs lock e. unlock_is_held image d.held d.regs answer regs lock (act_some image d answer _ e);
-}
+untouched image set d answer k covers out = grind (arith, put_is_held, act_takes, unlock_is_held)
 
 pub leaves : (image : Shown) (set : ℕ → Bool) (t : ℕ) (d : Thread) (locks : ℕ → Mutex) (k : ℕ) (l : Mutex) → Covers image set d → set k ≡ false → mutex_after image t d.held (next_act image d locks) k l ≡ l
 unfolding next_act
 leaves image set t d locks k l covers out = mutex_still image t d.held _ k l (untouched image set d _ k covers out)
 
--- ---- what a turn reads
-
+-- what a turn reads
 byte_same : (image : Shown) (set : ℕ → Bool) (own : ℕ → Option ℕ) (a b : ℕ → Mutex) (place : Region)
     → ((lock : ℕ) → place ≡ region.Guard lock → set lock ≡ true) → ((k : ℕ) → set k ≡ true → a k ≡ b k) → byte_at image own a place ≡ byte_at image own b place
-byte_same image set own a b (region.Guard lock) is same = ap (λ (l : Mutex). λ at. unwrap_or (byte_from (guard_at image lock).start l.bytes at) 0) (same lock (is lock refl))
-byte_same image set own a b _ is same = refl
+byte_same image set own a b place is same = grind arith
 
 -- the lock that an answer reads is in the set, so the answer is the same
 pub answer_same : (image : Shown) (set : ℕ → Bool) (wanted : Want) (next : Option ℕ) (own : ℕ → Option ℕ) (a b : ℕ → Mutex)
@@ -131,14 +85,9 @@ reads image set d a b covers same =
     ap (act_with image d) (answer_same image set (wants_of image d.held d.regs) (next_lock image d) d.own a b
     (λ lock addr width e. covers.held lock (guard_is_held image d.held d.regs lock addr width e)) covers.next same)
 
--- ---- what a thread holds after a turn
-
+-- what a thread holds after a turn
 pub held_grows : (d : Thread) (a : Option Act) (k : ℕ) → (thread_after d a).held k ≡ true → (d.held k ≡ true) ⊎ ((regs : Registers) × (a ≡ Some (Called (Lock k) regs)))
-held_grows d (Some (Next regs put)) k h = inl h
-held_grows d (Some (Called (Lock lock) regs)) k h = elim (eqb_tells k lock) [ inl e ↦ inr (regs, rw e.1 refl) | inr e ↦ inl (rw e.0 at h) ]
-held_grows d (Some (Called (Unlock lock) regs)) k h = elim (eqb_tells k lock) [ inl e ↦ absurd (let f : false ≡ true = (rw e.0 at h) in cc) | inr e ↦ inl (rw e.0 at h) ]
-held_grows d (Some (Called (Sleep n) regs)) k h = inl h
-held_grows d _ k h = absurd (cc)
+held_grows d a k h = grind arith
 
 -- it holds none but the image's
 pub held_known : (image : Shown) (d : Thread) (locks : ℕ → Mutex) → ((k : ℕ) → d.held k ≡ true → k < length image.guards)
@@ -156,26 +105,15 @@ pub covers_on : (image : Shown) (set : ℕ → Bool) (d : Thread) (locks : ℕ �
     → next_lock image (thread_after d (next_act image d locks)) ≡ None → Covers image set (thread_after d (next_act image d locks))
 covers_on image set d locks covers none = record { held = held_on image set d locks covers; next = λ k h. cc }
 
--- ---- a turn that releases a lock
-
-released_by : (a : Option Act) (lock : ℕ) → outcome_of a ≡ outcome.Unlocked lock → (regs : Registers) × (a ≡ Some (Called (Unlock lock) regs))
-released_by (Some (Called (Unlock k) regs)) lock e = (regs, (let same : k ≡ lock = cc in ap (λ x. Some (Called (Unlock x) regs)) same))
-released_by _ lock e = absurd (cc)
-
--- it held that lock
+-- a turn that releases a lock held it
 pub released_held : (image : Shown) (d : Thread) (locks : ℕ → Mutex) (lock : ℕ) → outcome_of (next_act image d locks) ≡ outcome.Unlocked lock → d.held lock ≡ true
 unfolding next_act
-released_held image d locks lock e =
-    (let was = released_by (next_act image d locks) lock e in unlock_is_held image d.held d.regs _ was.0 lock (act_some image d _ _ was.1))
+released_held image d locks lock e = grind (arith, unlock_is_held)
 
--- ---- a turn that ends no block
-
+-- a turn that ends no block
 pub went_on : (turns : ℕ) (next : Option ℕ) → end_rule outcome.Went turns next ≡ None → (next ≡ None) × (turns ≢ MAX_TURNS)
-went_on turns None e = (refl, λ f. grind (arith, nat_tests))
-went_on turns (Some k) e = absurd (cc)
+went_on turns next e = grind arith
 
 -- it leaves no lock to take next, is not the last that a block may have, and leaves the status
 pub goes_on : (d : Thread) (a : Option Act) (turns : ℕ) (next : Option ℕ) → end_rule (outcome_of a) turns next ≡ None → (next ≡ None) × (turns ≢ MAX_TURNS) × ((thread_after d a).status ≡ d.status)
-goes_on d (Some (Next regs put)) turns next e = (let p = went_on turns next e in (p.0, p.1, refl))
-goes_on d (Some (Called (Lock lock) regs)) turns next e = (let p = went_on turns next e in (p.0, p.1, refl))
-goes_on d _ turns next e = absurd (cc)
+goes_on d a turns next e = grind arith

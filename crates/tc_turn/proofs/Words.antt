@@ -1,5 +1,5 @@
 -- The foreign words of a block's turns.
-use Rattle.tc_turn.proofs.Vocabulary.{◌≡◌, ℕ, zero, suc, ◌+◌, ◌≤◌, Bool, true, false, ◌==◌, [], ◌∷◌, ◌++◌, length, sym, ap, ◌∙◌, arith, append-nil, append_assoc, length-append, if◌then◌else◌, Option, Shown, wants_of, Want, guard_is_held, Thread, Mutex, next_lock, answer_to, Covers}
+use Rattle.tc_turn.proofs.Vocabulary.{◌≡◌, ℕ, zero, suc, ◌+◌, ◌≤◌, Bool, true, ◌==◌, [], ◌∷◌, ◌++◌, length, sym, ap, ◌∙◌, arith, append-nil, append_assoc, length-append, if◌then◌else◌, Option, Shown, wants_of, Want, guard_is_held, Thread, Mutex, next_lock, answer_to, Covers}
 use Rattle.tc_turn.specs.Replay.{takes_word, word_of, words_from}
 use Rattle.tc_turn.proofs.Turns.{answer_same}
 
@@ -22,12 +22,7 @@ word_same image set k d a b covers same =
 -- each turn has one word or none
 pub word_short : (image : Shown) (k : ℕ) (d : Thread) (locks : ℕ → Mutex) → length (word_of image k d locks) ≤ 1
 unfolding word_of
-word_short image k d locks = go (d.fuel == 0) (takes_word k (wants_of image d.held d.regs) (next_lock image d)) _
-  where
-    go : (b c : Bool) (v : ℕ) → length (if b then [] else (if c then v ∷ [] else [])) ≤ 1
-    go true c v = omega arith
-    go false true v = omega arith
-    go false false v = omega arith
+word_short image k d locks = grind arith
 
 pub words_short : (image : Shown) (k : ℕ) (threads : ℕ → Thread) (locks : ℕ → ℕ → Mutex) (i n : ℕ) → length (words_from image k threads locks i n) ≤ n
 words_short image k threads locks i zero = omega arith
@@ -39,6 +34,4 @@ pub words_now : (image : Shown) (d : Thread) (locks : ℕ → Mutex) (k : ℕ) (
     → wanted ≡ wants_of image d.held d.regs → next ≡ next_lock image d → answer ≡ answer_to image wanted next d.own locks
     → (if d.fuel == 0 then [] else (if takes_word k wanted next then answer ∷ [] else [])) ≡ word_of image k d locks
 unfolding word_of
-words_now image d locks k wanted next answer w n a =
-    let b : answer ≡ answer_to image (wants_of image d.held d.regs) (next_lock image d) d.own locks = a ∙ (λ i. answer_to image (w i) (n i) d.own locks) in
-    λ i. if d.fuel == 0 then [] else (if takes_word k (w i) (n i) then b i ∷ [] else [])
+words_now image d locks k wanted next answer w n a = grind arith

@@ -250,6 +250,7 @@ impl GuestThread {
     }
 
     /// Follows what its turn did beside the registers and the fuel, which have it already.
+    #[inline(always)]
     fn follow(&mut self, done: &Done)
         requires { DoneFits done.now }
         ensures { thread_of self.new ≡ thread_done (thread_of self.old) done.now }

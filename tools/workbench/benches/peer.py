@@ -6,6 +6,7 @@ import io
 import json
 import os
 from pathlib import Path
+import statistics
 import tempfile
 import types
 
@@ -35,8 +36,8 @@ class Measured:
             self.took.append(took)
             return written.read() if is_read else b""
 
-    def least(self, what: str) -> float:
-        return float(min(getattr(took, what) for took in self.took))
+    def middle(self, what: str) -> float:
+        return statistics.median(float(getattr(took, what)) for took in self.took)
 
 
 def ends_of(text: bytes) -> report.Report:
@@ -78,8 +79,8 @@ def measure(name: str, asked: Namespace, peer: Path, to: table.Table) -> list[fl
     for _ in range(asked.runs):
         for one in ours, log, text:
             one.run(file)
-    ratios = [ours.least("busy") / one.least("busy") for one in (log, text)]
-    to.row([name, *counted, *(one.least(what) for one in (ours, log, text) for what in ("seconds", "busy")), *ratios],
+    ratios = [ours.middle("busy") / one.middle("busy") for one in (log, text)]
+    to.row([name, *counted, *(one.middle(what) for one in (ours, log, text) for what in ("seconds", "busy")), *ratios],
            [one.took for one in (ours, log, text)])
     return ratios
 

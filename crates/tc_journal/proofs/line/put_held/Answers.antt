@@ -1,4 +1,4 @@
-use Rattle.std.proofs.Common.{rules, ◌≡◌, ap, ◌∙◌, arith}
+use Rattle.std.proofs.Common.{rules, ◌≡◌, ◌++◌, ap, ◌∙◌, arith}
 use Rattle.std.specs.Prelude.{codes}
 use Rattle.tc_isa.specs.Sets.{locks_of}
 use Rattle.tc_journal.specs.Line.{numbers_text}
@@ -22,4 +22,4 @@ loop-lock-preserved c =
     (let short = c.put_number-in-Some-greatest.ensures.lock (omega (arith, c.from-in-Some-greatest.ensures, c.in-Some-greatest.ensures.bound)) in omega (arith, short, c.put_str-in-Some-greatest.ensures.len))
 
 pub returns-clause-value : goal.returns-clause-value
-returns-clause-value c = all_written c.args.held c.loop-lock.left c.loop-lock.line c.args.line.now c.loop-lock.invariant c.in_default-greatest.ensures.value
+returns-clause-value c = c.put_str-2.ensures.value ∙ ap (λ t. codes " held " ++ t) (all_written c.args.held c.loop-lock.left c.loop-lock.line c.args.line.now c.loop-lock.invariant c.in_default-greatest.ensures.value)

@@ -1,4 +1,4 @@
-use Rattle.tc_context.proofs.Vocabulary.{◌≡◌, ◌==◌, ◌∙◌, ap, sym, subst, set, arith, Some, None, slice_index_or, if◌then◌else◌, AreEnded, Gives, IsAtRest, PackageView, IsSoundPackage, IsWaiting, MayPassTo, lock_in, locks_with, number_in, view_of, view_with, with_grant, get_or-set}
+use Rattle.tc_context.proofs.Vocabulary.{◌≡◌, ◌∙◌, sym, subst, set, arith, Some, None, AreEnded, Gives, IsAtRest, PackageView, IsSoundPackage, IsWaiting, MayPassTo, locks_with, view_with}
 use Rattle.tc_context.proofs.Ended.{ended_placed}
 use Rattle.tc_context.proofs.Staging.{rests, shows, granted_sound, set_with, wanted, with_locks}
 use Rattle.tc_context.proofs.Rooms.{gives_placed}
@@ -35,34 +35,3 @@ invariant_of-self c =
       room = gives_placed c.args.lock.number (Some c.args.lock) p.context.locks _ _ _ c.put_in.ensures.locks c.with-contents.ensures.rest (λ l is. subst (Gives _) (let e : c.args.lock ≡ l = cc in e) c.with-contents.ensures.lock) s.kept.room;
       own = s.kept.own;
     }
-
-pub returns-clause-is : goal.returns-clause-is
-returns-clause-is c =
-    let r = rests (shows c.deref_mut-contents.ensures.value c.self.view_is c.self.invariant) c.requires.waiting.pending in
-    let p = view_with None c.deref_mut-contents.result.now in
-    let n = c.number.ensures.is in
-    ap (λ o. record p {
-      context = with_locks p.context (locks_with o p.context.guest.regs c.put_in.new.self);
-      granted = Some (record { lock = c.number.result; kind = c.args.kind });
-      pending = o;
-      numbers = set p.numbers c.number.result c.args.number;
-    }) r.none
-    ∙ (λ i. record p { context = with_locks p.context (c.put_in.ensures.is i); granted = Some (record { lock = n i; kind = c.args.kind }); numbers = set p.numbers (n i) c.args.number })
-    ∙ ap (with_grant c.args.lock c.args.kind c.args.number) r.is
-
-pub returns-clause-locks : goal.returns-clause-locks
-returns-clause-locks c =
-    let r = rests (shows c.deref_mut-contents.ensures.value c.self.view_is c.self.invariant) c.requires.waiting.pending in
-    λ k. ap (λ o. lock_in (locks_with o c.deref_mut-contents.result.now.context.guest.regs c.put_in.new.self) k) r.none ∙ c.put_in.ensures.locks k
-    ∙ ap (λ (v : PackageView). if k == c.args.lock.number then Some c.args.lock else lock_in v.context.locks k) r.is
-
-pub returns-clause-numbers : goal.returns-clause-numbers
-returns-clause-numbers c =
-    let s = shows c.deref_mut-contents.ensures.value c.self.view_is c.self.invariant in
-    λ k.
-    let p = view_of c.deref_mut-contents.result.now in
-    let n = c.args.lock.number in
-    let number = c.args.number in
-    let small = (wanted p s.kept.sound n (subst (λ v. IsWaiting v n) (sym s.is) c.requires.waiting).want).small in
-    let full = s.kept.sound.places.1 in
-    ap (λ j. slice_index_or (set p.numbers j number) k 0) c.number.ensures.is ∙ get_or-set p.numbers n k number 0 (omega (arith, small, full)) ∙ ap (λ v. if k == n then number else number_in v k) s.is

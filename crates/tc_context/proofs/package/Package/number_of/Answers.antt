@@ -1,11 +1,6 @@
 use Rattle.tc_context.proofs.Vocabulary.{ap, ◌∙◌, is_some, lock_in, PackageView, view_of}
-use Rattle.tc_context.proofs.Staging.{some_of, shows, place_small}
+use Rattle.tc_context.proofs.Staging.{some_of, shows}
 use Rattle.tc_context.proofs.package.Package.number_of.Goals as goal
-
-pub bounds-contents-lock : goal.bounds-contents-lock
-bounds-contents-lock c =
-    let s = shows c.deref-contents.ensures c.self.view_is c.self.invariant in
-    place_small (view_of c.deref-contents.result.now) c.args.lock s.kept.sound (ap (λ (v : PackageView). is_some (lock_in v.context.locks c.args.lock)) s.is ∙ c.requires)
 
 pub returns-clause-number : goal.returns-clause-number
 returns-clause-number c =

@@ -1,5 +1,5 @@
 use Rattle.std.specs.declared.sync.Arc.{Arc}
-use Rattle.tc_context.proofs.Vocabulary.{◌≡◌, ◌-◌, ◌<◌, ◌≤◌, length, List, [], Option, None, Vec, Global, Part, Contents, KeptPackage, LockView, guest_in, refl, arith, ap, subst, sym, ◌∙◌, is_some, vec_len, vec_capacity, AreEnded, Block, Guest, IsSoundPackage, SameLocks, next_lock, thread_of, PackageView, kept, lock_in, option_map, view_of, locks_with, pending_in, Room, bare}
+use Rattle.tc_context.proofs.Vocabulary.{◌≡◌, ◌-◌, ◌<◌, ◌≤◌, length, List, Option, None, Vec, Global, Part, Contents, KeptPackage, LockView, guest_in, refl, arith, ap, subst, sym, ◌∙◌, is_some, vec_len, vec_capacity, AreEnded, Block, Guest, IsSoundPackage, SameLocks, next_lock, thread_of, PackageView, view_of, locks_with, pending_in, Room}
 use Rattle.tc_context.proofs.Ended.{ended_rooms}
 use Rattle.tc_context.proofs.Rooms.{EachGives, gives_none}
 use Rattle.tc_context.proofs.Staging.{Shows, shows, with_rooms, same_set, same_seen, seen_places, roomy_seen, sound_rooms, unsealed_rooms}
@@ -63,16 +63,4 @@ returns-clause-ok c =
     record { log = omega (arith, c.in_ok-make_room.ensures.room); entries = λ k l e. (room k l e).entry; words = λ k l e. (room k l e).words }
 
 pub returns-clause-same : goal.returns-clause-same
-returns-clause-same c =
-    let s = shows c.deref_mut-contents.ensures.value c.self.view_is c.self.invariant in
-    let a = c.deref_mut-contents.result.now in
-    let items = c.make_room.ensures.same.items in
-    let thread = c.make_room.ensures.thread in
-    record {
-      rest = (λ i. record { image = a.of.value; context = record { thread = a.context.thread; guest = thread i; locks = [] }; granted = None; pending = pending_in a.pending (items i); log = items i; log_room = 0; numbers = []; turns = 0; slept = a.slept }) ∙ ap bare s.is;
-      granted = ap (λ (v : PackageView). v.granted) s.is;
-      numbers = ap (λ (v : PackageView). v.numbers) s.is;
-      turns = ap (λ (v : PackageView). v.turns) s.is;
-      locks = λ k. (λ i. option_map kept (lock_in (locks_with (pending_in a.pending (items i)) (thread i).regs c.reserve-made.new.self) k))
-          ∙ same_seen (pending_in a.pending a.log.items) a.context.guest.regs a.context.locks c.reserve-made.new.self c.reserve-made.ensures.same k ∙ ap (λ (v : PackageView). option_map kept (lock_in v.context.locks k)) s.is;
-    }
+returns-clause-same c = grind (arith, shows, same_seen)

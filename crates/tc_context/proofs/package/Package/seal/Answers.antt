@@ -37,11 +37,6 @@ module _ {a : Contents} {v : PackageView} (s : Shows a v) (some : is_some v.pend
       pub is_sealed : length new ≡ 32 → record (view_of a) { context = record { thread = a.context.thread; guest = (view_of a).context.guest; locks = new }; pending = None; log = log.items; log_room = vec_capacity log - vec_len log } ≡ with_seal stamp worker (view_of a)
       is_sealed places = seal_is (view_of a) pends stamp worker _ _ _ new s.kept.sound a.log.ok.0 places each (did.log pends.block pends.last) (omega (arith, did.len, did.capacity))
 
-pub seal_last-last-requires : goal.seal_last-last-requires
-seal_last-last-requires c =
-    let some = (pends (shows c.deref_mut-contents.ensures.value c.self.view_is c.self.invariant) c.requires.pending).some in
-    omega (arith, some, c.deref_mut-contents.result.now.log.ok.0)
-
 pub seal-contents-requires : goal.seal-contents-requires
 seal-contents-requires c =
     let s = shows c.deref_mut-contents.ensures.value c.self.view_is c.self.invariant in

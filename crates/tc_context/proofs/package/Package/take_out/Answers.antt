@@ -1,13 +1,8 @@
-use Rattle.tc_context.proofs.Vocabulary.{◌≡◌, ◌==◌, ◌<◌, arith, refl, ap, subst, sym, ◌∙◌, Some, None, is_some, if◌then◌else◌, has, IsAtRest, lock_in, PackageView, AreEnded, IsSoundPackage, locks_with, view_of, view_with, without_lock}
+use Rattle.tc_context.proofs.Vocabulary.{◌≡◌, ◌<◌, arith, refl, ap, subst, sym, ◌∙◌, Some, None, is_some, has, IsAtRest, lock_in, PackageView, AreEnded, IsSoundPackage, locks_with, view_with}
 use Rattle.tc_context.proofs.Ended.{ended_placed}
 use Rattle.tc_context.proofs.Staging.{rests, shows, place_small, at_rest, set_without, taken_sound, with_locks}
 use Rattle.tc_context.proofs.Rooms.{gives_placed}
 use Rattle.tc_context.proofs.package.Package.take_out.Goals as goal
-
-pub take_out-requires : goal.take_out-requires
-take_out-requires c =
-    let s = shows c.deref_mut-contents.ensures.value c.self.view_is c.self.invariant in
-    place_small (view_of c.deref_mut-contents.result.now) c.args.lock s.kept.sound (ap (λ (v : PackageView). is_some (lock_in v.context.locks c.args.lock)) s.is ∙ c.requires.here)
 
 pub invariant_of-self : goal.invariant_of-self
 invariant_of-self c =
@@ -32,25 +27,8 @@ invariant_of-self c =
       own = s.kept.own;
     }
 
-pub returns-clause-lock : goal.returns-clause-lock
-returns-clause-lock c =
-    ap (λ (v : PackageView). lock_in v.context.locks c.args.lock) (sym (rests (shows c.deref_mut-contents.ensures.value c.self.view_is c.self.invariant) c.requires.pending).is) ∙ sym c.take_out.ensures.taken ∙ c.in-Some.is
-
 pub returns-clause-rest : goal.returns-clause-rest
 returns-clause-rest c =
     let r = rests (shows c.deref_mut-contents.ensures.value c.self.view_is c.self.invariant) c.requires.pending in
     subst (λ (v : PackageView). IsAtRest v.image c.args.lock c.in-Some.state) r.is (at_rest (view_with None c.deref_mut-contents.result.now) c.args.lock c.in-Some.state r.sound refl
     (ap (λ (v : PackageView). has v.context.guest.held c.args.lock) r.is ∙ c.requires.released) (sym c.take_out.ensures.taken ∙ c.in-Some.is))
-
-pub returns-clause-is : goal.returns-clause-is
-returns-clause-is c =
-    let r = rests (shows c.deref_mut-contents.ensures.value c.self.view_is c.self.invariant) c.requires.pending in
-    let p = view_with None c.deref_mut-contents.result.now in
-    ap (λ o. record p { context = with_locks p.context (locks_with o p.context.guest.regs c.take_out.new.self); pending = o }) r.none
-    ∙ (λ i. record p { context = with_locks p.context (c.take_out.ensures.is i) }) ∙ ap (without_lock c.args.lock) r.is
-
-pub returns-clause-locks : goal.returns-clause-locks
-returns-clause-locks c =
-    let r = rests (shows c.deref_mut-contents.ensures.value c.self.view_is c.self.invariant) c.requires.pending in
-    λ k. ap (λ o. lock_in (locks_with o c.deref_mut-contents.result.now.context.guest.regs c.take_out.new.self) k) r.none ∙ c.take_out.ensures.left k
-    ∙ ap (λ (v : PackageView). if k == c.args.lock then None else lock_in v.context.locks k) r.is

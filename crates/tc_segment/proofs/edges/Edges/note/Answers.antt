@@ -1,22 +1,15 @@
-use Rattle.tc_segment.proofs.Vocabulary.{◌≡◌, length, drop, sym, ap, subst, ◌∙◌, arith, Edges, Extends, drop_at}
-use Rattle.tc_segment.proofs.Packing.{all_packed, some_packed, stands_last, extends_more}
+use Rattle.tc_segment.proofs.Vocabulary.{take, length, ap, ◌∙◌, arith, Edges, length-take}
+use Rattle.tc_segment.proofs.Packing.{stands_beside}
 use Rattle.tc_segment.proofs.edges.Edges.note.Goals as goal
-
-pub invariant_of-self : goal.invariant_of-self
-invariant_of-self c =
-    let room = ap (λ (e : Edges). e.room) c.self.view_is in
-    omega (arith, room, c.requires, c.in-Ok.ensures.len, c.words.ensures.few)
 
 pub returns : goal.returns
 returns c =
-    let was = c.self.inside.words.items in
-    let new = c.extend_from_slice.new.self in
-    let packs = c.words.ensures in
-    let count : c.len-place.result ≡ length was = c.len-place.ensures ∙ c.self.inside.words.ok.0 in
-    let is = ap (drop c.len-place.result) c.in-Ok.ensures.items ∙ drop_at was c.words.result.now c.len-place.result (sym count) ∙ all_packed packs in
+    let made = c.make_row.ensures in
+    let room = ap (λ (x : Edges). x.room) c.self.view_is in
+    let stands = stands_beside _ _ c.write.ensures (ap (take c.self.inside.end) c.deref_mut.ensures.value ∙ made.same ∙ ap (λ (x : Edges). x.words) c.self.view_is) (omega (arith, length-take c.self.inside.end c.deref_mut.result.now, c.deref_mut.ensures.len, made.row)) (omega (arith, c.write.auto.row, c.write.ensures.few)) (omega (arith, made.row, c.write.ensures.few)) in
     record {
-      place = stands_last new.items c.len-place.result c.args.packed.now packs.whole (omega (arith, new.ok.0, c.in-Ok.ensures.len, some_packed packs)) is;
-      more = subst (λ old. Extends old new.items) (ap (λ (e : Edges). e.words) c.self.view_is)
-          (subst (λ ws. Extends c.self.inside.words.items ws) (sym c.in-Ok.ensures.items) (extends_more c.self.inside.words.items c.words.result.now));
-      room = (let room = ap (λ (e : Edges). e.room) c.self.view_is in omega (arith, room, c.in-Ok.ensures.len, c.in-Ok.ensures.capacity, packs.few));
+      place = stands.0;
+      more = stands.1;
+      room = omega (arith, room, made.capacity, c.write.ensures.few);
+      behind = omega (arith, length-take c.self.inside.end c.self.inside.words.items, c.self.invariant.inside, ap (λ (x : Edges). length x.words) c.self.view_is);
     }

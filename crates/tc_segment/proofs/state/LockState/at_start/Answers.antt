@@ -1,4 +1,5 @@
-use Rattle.tc_segment.proofs.Vocabulary.{◌≡◌, ◌∙◌, length, sym, ap, subst, arith, Some, None, AllFit, IsSoundLock, KeptLock, LockView, Shown, blocks_of, guard_at, last_finish, run_of, room_in, starting_bytes}
+use Rattle.tc_segment.proofs.Vocabulary.{AreCounted, Fits, ◌≡◌, ◌∙◌, length, refl, sym, ap, subst, arith, Some, None, AllFit, IsSoundLock, KeptLock, LockView, Shown, blocks_of, guard_at, last_finish, run_of, room_in, starting_bytes}
+use Rattle.std.proofs.lemmas.List.Elements.{All-nil}
 use Rattle.tc_segment.proofs.Keeping.{fresh_view, sound_fresh}
 use Rattle.tc_segment.proofs.state.LockState.at_start.Goals as goal
 
@@ -17,16 +18,16 @@ invariant_of-result c =
     subst KeptLock (sym c.in_ok-new.ensures.ok) (record {
       sound = subst (λ (l : LockView). IsSoundLock l) (sym view) (sound_fresh image c.args.lock c.args.limit c.args.strict c.requires.known (omega arith) guard.kept c.requires.lawful);
       start = (ap (λ p. p.0) place ∙ ap (λ (x : Shown). (guard_at x c.args.lock).start) (sym of));
-      records = subst (λ rs. AllFit edges words rs) (sym records) tt;
+      records = subst (λ rs. AllFit edges words rs) (sym records) (All-nil (Fits edges words));
       sealed = omega arith;
       closed = omega (arith, none);
       opened = tt;
       from = λ no. sym (ap length c.new-3.ensures.items);
       ends = λ no regs on. absurd (let f : None ≡ Some regs = ap (λ (l : LockView). last_finish l.journal.sealed l.journal.closed) (sym view) ∙ on in cc);
+      parts = subst (λ rs. AreCounted rs 0 0) (sym records) (refl, refl);
+      near = record { behind = omega arith; inside = omega arith; near = omega (arith, c.new-2.ensures); small = omega arith };
+      few = (let n = ap (λ (x : Shown). length x.guards) of in omega (arith, n));
       run = sym (ap (λ (l : LockView). run_of c.args.lock (blocks_of l)) view);
       short = omega arith;
-      entries = omega (arith, none);
-      most = omega arith;
-      edge_room = omega arith;
-      word_places = omega arith;
+      rooms = record { entries = omega (arith, none); most = omega arith; edges = omega arith; words = omega arith };
     })

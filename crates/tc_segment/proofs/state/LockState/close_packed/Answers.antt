@@ -13,6 +13,7 @@ pub close-requires : goal.close-requires
 close-requires c =
     let broken = c.break_at.ensures in
     record {
+      draft = c.of.ensures;
       opened = ap (λ (l : LockView). is_some l.journal.opened) broken ∙ c.requires.opened;
       ended = λ ends. ap (λ (l : LockView). l.broken) broken ∙ ap (λ b. b || c.args.self.now.broken) ends;
       closes = subst (λ (l : LockView). ClosesWith c.args.block.now c.args.end.now l) (sym broken) (closes_ended c.args.block.now c.args.end.now c.args.self.now c.requires.closes);

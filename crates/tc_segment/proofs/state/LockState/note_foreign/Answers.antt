@@ -36,10 +36,10 @@ invariant_of-self c =
       opened = subst (λ ws. OpenFits a.edges.words ws (open_in a.opened a.next)) (sym items) (open_fits-more a.edges.words a.words.items (c.args.value ∷ []) (open_in a.opened a.next) k.opened);
       from = λ no. absurd (let is = is_opened a was in cc);
       ends = λ no. absurd (let is = is_opened a was in cc);
+      parts = k.parts;
+      near = k.near;
+      few = k.few;
       run = k.run ∙ ap (λ (l : LockView). run_of a.number (blocks_of l)) (sym view);
       short = k.short;
-      entries = k.entries;
-      most = k.most;
-      edge_room = k.edge_room;
-      word_places = omega (arith, room, c.push_reserved.ensures.len);
+      rooms = record { entries = k.rooms.entries; most = k.rooms.most; edges = k.rooms.edges; words = omega (arith, room, c.push_reserved.ensures.len) };
     }

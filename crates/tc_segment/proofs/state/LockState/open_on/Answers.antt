@@ -1,11 +1,11 @@
-use Rattle.tc_segment.proofs.Vocabulary.{◌<◌, sym, ap, subst, ◌∙◌, arith, ◌≡◌, None, Contents, EndedAt, KeptLock, LockView, Registers, StandsBeside, entry_room_in, lock_of, opened_at, view_of, with_journal}
+use Rattle.tc_segment.proofs.Vocabulary.{◌<◌, sym, ap, subst, ◌∙◌, arith, ◌≡◌, None, Contents, EndedAt, KeptLock, LockView, Registers, entry_room_in, lock_of, opened_at, view_of, with_journal}
 use Rattle.tc_segment.proofs.Packing.{extends_same}
-use Rattle.tc_segment.proofs.Opening.{not_opened, opened_view, opened_kept}
+use Rattle.tc_segment.proofs.Opening.{OpensAt, not_opened, opened_view, opened_kept}
 use Rattle.tc_segment.proofs.state.LockState.open_on.Goals as goal
 
 -- the registers of the last entry stand where the next one's do, and nothing is noted
-beside : (a : Contents) (start : Registers) → KeptLock a → (view_of a).journal.opened ≡ None → EndedAt start (view_of a).journal → StandsBeside start a.edges a.edges a.next.start
-beside a start k none on = record { place = k.ends (not_opened a none) start on; more = extends_same a.edges.words; room = omega arith }
+beside : (a : Contents) (start : Registers) → KeptLock a → (view_of a).journal.opened ≡ None → EndedAt start (view_of a).journal → OpensAt a start a.edges a.next.start
+beside a start k none on = record { last = k.ends (not_opened a none) start on; more = extends_same a.edges.words; room = omega arith; behind = omega arith; few = omega arith }
 
 pub returns : goal.returns
 returns c =

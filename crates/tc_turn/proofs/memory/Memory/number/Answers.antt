@@ -1,15 +1,6 @@
-use Rattle.tc_turn.proofs.Vocabulary.{◌≡◌, true, ap, sym, subst, ◌∙◌, unwrap_or, get_or_default, Part, number_at, byte_from, own_of, no_part, part_at, part_has, AreApart}
+use Rattle.tc_turn.proofs.Vocabulary.{◌≡◌, ap, sym, subst, ◌∙◌, unwrap_or, get_or_default, Part, number_at, byte_from, own_of, no_part, part_at, AreApart}
 use Rattle.tc_turn.proofs.PartLaws.{number_there}
 use Rattle.tc_turn.proofs.memory.Memory.number.Goals as goal
-
-pub number_within-requires-clause-there : goal.number_within-requires-clause-there
-number_within-requires-clause-there c =
-    let parts = c.as_slice-parts.result.now in
-    let has = c.has_in.ensures c.if-not-has_in.false in
-    let is : record { start = c.part.inside.start; bytes = c.deref.result.now } ≡ part_at parts c.args.near =
-    (λ i. record { start = c.part.inside.start; bytes = c.deref.ensures.value i }) ∙ c.part.view_is ∙ c.index-parts-near.is
-    ∙ get_or_default parts c.args.near c.index-parts-near.result no_part has.known in
-    subst (λ (p : Part). part_has c.args.addr c.args.width p ≡ true) (sym is) has.there
 
 pub returns : goal.returns
 returns c =

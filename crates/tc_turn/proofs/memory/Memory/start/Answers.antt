@@ -1,13 +1,6 @@
 use Rattle.tc_turn.proofs.Vocabulary.{◌+◌, List, sym, subst, arith, Part}
-use Rattle.tc_turn.proofs.MemoryLaws.{AreMade, none_made, piece_more, own_made}
+use Rattle.tc_turn.proofs.MemoryLaws.{AreMade, piece_more, own_made}
 use Rattle.tc_turn.proofs.memory.Memory.start.Goals as goal
-
-pub pieces-init : goal.pieces-init
-pieces-init c = record {
-  made = subst (λ (parts : List Part). AreMade c.args.image.now parts 0) (sym c.new-parts.ensures.items) (none_made c.args.image.now);
-  past = λ some. absurd (omega arith);
-  fits = omega arith;
-}
 
 pub pieces-preserved : goal.pieces-preserved
 pieces-preserved c = record {
@@ -16,9 +9,6 @@ pieces-preserved c = record {
   past = λ some. c.own_piece-piece.ensures.past;
   fits = omega (arith, c.own_piece-piece.ensures.fits);
 }
-
-pub invariant_of-result : goal.invariant_of-result
-invariant_of-result c = c.pieces.invariant.made.apart
 
 pub returns : goal.returns
 returns c = own_made c.args.image.now c.pieces.parts.items c.pieces.next c.pieces.invariant.made (λ at high. c.pieces.invariant.past (omega (arith, c.pieces-test.false)) at (omega (arith, c.pieces-test.false, high)))
