@@ -1,6 +1,6 @@
 //! Packages.
 
-ghost use Rattle.std.specs.Prelude.{◌≡◌, ◌<◌, ◌≤◌, ◌+◌, min, true, false, is_some, length, vec_len, vec_capacity, Some, None, IfOk, OnOk};
+ghost use Rattle.std.specs.Prelude.{◌≡◌, ◌<◌, ◌≤◌, ◌+◌, min, true, false, is_some, length, vec_len, vec_capacity, Some, None, IfErr, IfOk, OnOk};
 ghost use Rattle.std.specs.Arc.{arc_value};
 ghost use Rattle.tc_isa.specs.Sets.{has};
 ghost use Rattle.tc_isa.specs.declared.limits.TheConstants.{MAX_FUEL};
@@ -35,12 +35,12 @@ use tc_turn::memory::Memory;
 use tc_turn::status::Status;
 use tc_turn::thread::GuestThread;
 
-/// For how many blocks a log has room first. What is not written yet takes no memory of the host.
+/// For how many blocks a log has room first, and by how many it grows at least. What is not written
+/// yet takes no memory of the host, and a large log grows without a copy. A first growth that fills a
+/// large page of the host takes fewer faults, and 2 MB for each thread, of which most is not used.
 const FIRST_BLOCKS: usize = 1_024;
 
-/// By how many blocks it grows at least: it has room for 52,428 then, which with what an allocator
-/// keeps before them fill a large page of the host. A log of that size grows without a copy.
-const MORE_BLOCKS: usize = 51_404;
+const MORE_BLOCKS: usize = 4_096;
 
 /// The greatest number of a queue turn (ticket).
 pub const MAX_NUMBER: u64 = 16_777_215;
@@ -239,8 +239,8 @@ impl Package {
     }
 
     /// Like `start`, but with decoded code that it shares with others, and with initial memory that
-    /// it shares until its first `reserve`, which makes a copy. So the worker that runs a thread
-    /// makes the thread's memory.
+    /// it shares until its first `reserve`, which makes a copy, or takes the memory itself if no other
+    /// package shares it any more. So the worker that runs a thread makes the thread's memory.
     pub fn start_with(
         alloc: Global,
         image: &Image,
@@ -537,7 +537,7 @@ fn grow(
     log.reserve(more)
 }
 
-/// Gives a thread its own copy of the memory with which it begins, where it has none.
+/// Gives a thread its own memory, where it has none.
 fn own_memory(
     first: &mut Option<Arc<Memory, Global>>,
     guest: &mut GuestThread,
@@ -545,9 +545,32 @@ fn own_memory(
     ensures thread { guest_in first.new guest.new ≡ guest_in first.old guest.old }
     ensures own { OnOk result (first.new ≡ None) }
 {
-    if let Some(memory) = first {
-        guest.give(memory.copy()?);
-        *first = None;
+    let Some(shared) = first.take() else {
+        return Ok(());
+    };
+    match unshared(shared) {
+        Ok(memory) => {
+            guest.give(memory);
+            Ok(())
+        }
+        Err(shared) => {
+            *first = Some(shared);
+            Err(AllocError)
+        }
     }
-    Ok(())
+}
+
+/// A copy of the memory with which threads begin, or that memory itself for the last of them.
+fn unshared(shared: Arc<Memory, Global>) -> Result<Memory, Arc<Memory, Global>>
+    ensures ok { IfOk result (λ memory. memory ≡ arc_value shared) }
+    ensures err { IfErr result (λ back. back ≡ shared) }
+{
+    let shared = match Arc::try_unwrap(shared) {
+        Ok(memory) => return Ok(memory),
+        Err(shared) => shared,
+    };
+    match shared.copy() {
+        Ok(memory) => Ok(memory),
+        Err(_) => Err(shared),
+    }
 }

@@ -13,11 +13,12 @@ ghost use Rattle.tc_exec.specs.Step as step;
 ghost use Rattle.tc_exec.specs.Told.{taken_by};
 
 use crate::guest_calls::is_numbered_lock;
-use crate::step::{instruction_at, lock_called, may_lock};
+use crate::step::{lock_called, may_lock};
 use std::alloc::{AllocError, Global};
 use std::marker::Model;
 use std::snapshot::Snapshot;
 use tc_elf::image::Image;
+use tc_isa::decode::decode;
 use tc_isa::held::Held;
 use tc_isa::instr::Instr;
 use tc_isa::regs::Regs;
@@ -92,13 +93,11 @@ impl<'a> Stretch<'a> {
 }
 
 /// The decoded word of a place.
+#[tactic(auto, unfolding(crate::specs::Step::instruction_at))]
 fn slot_at(image: &Image, pc: u32) -> Option<Instr>
     ensures { SlotTells image.now pc result }
 {
-    match instruction_at(image, pc) {
-        Ok(instr) => Some(instr),
-        Err(_) => None,
-    }
+    decode(image.fetch(pc)?)
 }
 
 /// So many decoded words from a place on.
@@ -113,7 +112,7 @@ fn slots_from(
 {
     let mut slots = Vec::with_capacity(alloc, count as usize)?;
     'words: for i in 0..count {
-        slots.push(slot_at(image, start + 4 * i))?;
+        slots.push_reserved(slot_at(image, start + 4 * i));
     }
     Ok(slots)
 }

@@ -236,8 +236,9 @@ fn op_instr_of(fields: &Fields) -> Option<Instr>
     Some(Instr::Op { op, rd, rs1, rs2 })
 }
 
-/// The instruction that the fields encode.
+/// The instruction that the fields encode. Always inlined, as `decode` is.
 #[tactic(auto, unfolding(crate::specs::Reading::instr_of))]
+#[inline(always)]
 fn instr_of(fields: &Fields) -> Option<Instr>
     requires { reading.IsWithin fields.now }
     ensures { result ≡ reading.instr_of fields.now }
@@ -278,7 +279,9 @@ fn instr_of(fields: &Fields) -> Option<Instr>
 
 /// The instruction that a word encodes, or None if it encodes none of RV32IM. Compressed code, the
 /// other extensions, CSRs and FENCE.I are not supported.
+/// Always inlined: called, they take 28 host instructions more for each word of an image's code.
 #[tactic(auto, unfolding(crate::specs::Reading::decoded))]
+#[inline(always)]
 pub fn decode(word: u32) -> Option<Instr>
     ensures value { result ≡ reading.decoded word }
     // Sound: a row of the table has the word for this instruction.

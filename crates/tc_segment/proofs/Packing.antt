@@ -1,27 +1,34 @@
 -- Registers that are packed, and noted one after another.
-use Rattle.std.proofs.Common.{◌≡◌, ℕ, zero, suc, ◌+◌, ◌-◌, ◌*◌, ◌^◌, ◌/◌, ◌%◌, ◌<◌, ◌≤◌, min, inl, inr, Bool, true, false, ◌==◌, List, [], ◌∷◌, ◌++◌, length, get_or, take, drop, set, refl, ap, sym, subst, ◌∙◌, arith, append_assoc, append-nil, length-append, length-drop, map, not, slice_index, if◌then◌else◌}
-use Rattle.tc_segment.proofs.Vocabulary.{Extends, IsPlace, IsRegisters, Registers, StandsAt, StandsLast, behind, bit_and, drop_at, mask_of, nonzero, packed, take-append-le, with_register, drop-append-le, get_or-drop, drop-drop, length-take, take-append-drop, take_all, take_more_set, Decides-eqb, cases_lt, spread, regs_at, ArePacked, and_step, and_self}
-use Rattle.std.proofs.Math.Nat.{pow-succ'}
+use Rattle.std.proofs.Common.{◌≡◌, ℕ, zero, suc, ◌+◌, ◌-◌, ◌*◌, ◌^◌, ◌/◌, ◌%◌, ◌<◌, ◌≤◌, min, inl, inr, Bool, true, false, ◌==◌, List, [], ◌∷◌, ◌++◌, length, get_or, take, drop, set, refl, ap, sym, subst, ◌∙◌, arith, append_assoc, append-nil, length-append, length-drop, not, slice_index, if◌then◌else◌}
+use Rattle.tc_segment.proofs.Vocabulary.{Extends, IsPlace, IsRegisters, Registers, StandsAt, StandsLast, behind, bit_and, drop_at, mask_of, packed, unusual, usual, take-append-le, with_register, drop-append-le, get_or-drop, drop-drop, length-take, take-append-drop, take_all, take_more_set, Decides-eqb, cases_lt, spread, regs_at, ArePacked, and_step, and_self}
+use Rattle.std.proofs.Math.Nat.{one-le-pow, pow-succ'}
 use Rattle.std.proofs.Math.Seq.{take-append-add}
-use Rattle.std.proofs.lemmas.List.{take-take}
+use Rattle.std.proofs.lemmas.List.{drop-set-lt, drop_all, take-take, take_more}
 use Rattle.std.specs.Int.Count.{count_trailing_zeros, under}
-use Rattle.std.specs.Simd.Lanes.{mask_l}
+use Rattle.std.specs.Simd.Lanes.{mask_l, zip2}
+use Rattle.std.proofs.lemmas.Simd.{length-zip2, mask_l-mod}
+
+pub usual_count : length usual ≡ 31
+unfolding usual
+usual_count = refl
 
 -- what was packed comes out again, whatever stands behind it
-spread_packed : (xs rest : List ℕ) → spread (length xs) (mask_of xs) (nonzero xs ++ rest) ≡ xs
+spread_packed : (us xs rest : List ℕ) → length us ≡ length xs → spread us (mask_of us xs) (unusual us xs ++ rest) ≡ xs
 unfolding spread
-spread_packed [] rest = refl
-spread_packed (x ∷ xs) rest =
-    let again = spread_packed xs rest in
-    (elim (x == 0) as (λ b. (x == 0) ≡ b → spread (suc (length xs)) (if b then 2 * mask_of xs else 2 * mask_of xs + 1) ((if b then nonzero xs else x ∷ nonzero xs) ++ rest) ≡ x ∷ xs) [
+spread_packed [] [] rest same = refl
+spread_packed [] (x ∷ xs) rest same = absurd (omega (arith, same))
+spread_packed (u ∷ us) [] rest same = absurd (omega (arith, same))
+spread_packed (u ∷ us) (x ∷ xs) rest same =
+    let again = spread_packed us xs rest (omega (arith, same)) in
+    (elim (x == u) as (λ b. (x == u) ≡ b → spread (u ∷ us) (if b then 2 * mask_of us xs else 2 * mask_of us xs + 1) ((if b then unusual us xs else x ∷ unusual us xs) ++ rest) ≡ x ∷ xs) [
       | true ↦ λ e.
-          let none : x ≡ 0 = (Decides-eqb x 0).0 e in
-          let low : (2 * mask_of xs) % 2 ≡ 0 = omega arith in
-          let half : (2 * mask_of xs) / 2 ≡ mask_of xs = omega arith in
+          let none : x ≡ u = (Decides-eqb x u).0 e in
+          let low : (2 * mask_of us xs) % 2 ≡ 0 = omega arith in
+          let half : (2 * mask_of us xs) / 2 ≡ mask_of us xs = omega arith in
           rw low (rw half (λ i. sym none i ∷ again i))
       | false ↦ λ e.
-          let low : (2 * mask_of xs + 1) % 2 ≡ 1 = omega arith in
-          let half : (2 * mask_of xs + 1) / 2 ≡ mask_of xs = omega arith in
+          let low : (2 * mask_of us xs + 1) % 2 ≡ 1 = omega arith in
+          let half : (2 * mask_of us xs + 1) / 2 ≡ mask_of us xs = omega arith in
           rw low (rw half (λ i. x ∷ again i))
     ]) refl
 
@@ -41,10 +48,10 @@ pub stands_is : {edges : List ℕ} {i : ℕ} {r : Registers} → StandsAt edges 
 unfolding regs_at
 stands_is {edges} {i} {r} s =
     let xs = drop 1 r.words in
-    let parts = drop_two edges i r.pc (mask_of xs) (nonzero xs ++ s.rest) s.is in
+    let parts = drop_two edges i r.pc (mask_of usual xs) (unusual usual xs ++ s.rest) s.is in
     let first = zero_first r.words 31 s.whole.count s.whole.zero_stays in
-    let words : spread 31 (get_or edges (i + 1) 0) (drop (i + 2) edges) ≡ xs =
-    (λ j. spread (sym first.1 j) (parts.1 j) (parts.2 j)) ∙ spread_packed xs s.rest in
+    let words : spread usual (get_or edges (i + 1) 0) (drop (i + 2) edges) ≡ xs =
+    (λ j. spread usual (parts.1 j) (parts.2 j)) ∙ spread_packed usual xs s.rest (usual_count ∙ sym first.1) in
     λ j. record { pc = parts.0 j; words = (ap (λ ys. 0 ∷ ys) words ∙ sym first.0) j }
 
 -- words that begin with these registers
@@ -102,30 +109,35 @@ packed_same {xs} {ys} {end} n view packs le same = subst (λ r. ArePacked ys end
 
 -- ---- packing
 
--- whether a number is kept
-abbrev pub is_kept : ℕ → Bool
-is_kept x = not (x == 0)
+pub mask_lanes : (us xs : List ℕ) → mask_of us xs ≡ mask_l (zip2 (λ a b. not (a == b)) xs us)
+mask_lanes [] [] = refl
+mask_lanes [] (x ∷ xs) = refl
+mask_lanes (u ∷ us) [] = refl
+mask_lanes (u ∷ us) (x ∷ xs) =
+    let e = mask_lanes us xs in
+    (elim (x == u) as (λ b. (if b then 2 * mask_of us xs else 2 * mask_of us xs + 1) ≡ mask_l (not b ∷ zip2 (λ a b. not (a == b)) xs us)) [ true ↦ omega (arith, e) | false ↦ omega (arith, e) ])
 
-pub mask_lanes : (xs : List ℕ) → mask_of xs ≡ mask_l (map is_kept xs)
-mask_lanes [] = refl
-mask_lanes (x ∷ xs) =
-    let e = mask_lanes xs in
-    (elim (x == 0) as (λ b. (if b then 2 * mask_of xs else 2 * mask_of xs + 1) ≡ mask_l (not b ∷ map is_kept xs)) [ true ↦ omega (arith, e) | false ↦ omega (arith, e) ])
+-- what is read of the lanes that are compared
+pub mask_read : (us xs : List ℕ) (ms : List Bool) → length xs ≡ length us → length us ≤ 64 → ms ≡ zip2 (λ a b. not (a == b)) xs us → mask_l ms % 2 ^ 64 ≡ mask_of us xs
+mask_read us xs ms same few is =
+    ap (λ bs. mask_l bs % 2 ^ 64) is
+    ∙ mask_l-mod (zip2 (λ a b. not (a == b)) xs us) 64 (omega (arith, few, length-zip2 (λ a b. not (a == b)) xs us same, same))
+    ∙ sym (mask_lanes us xs)
 
 -- without the first, which is 0
-pub mask_first : (xs : List ℕ) (n : ℕ) → length xs ≡ suc n → slice_index xs 0 ≡ 0 → mask_of xs / 2 ≡ mask_of (drop 1 xs)
-mask_first xs n len first =
-    let half : (2 * mask_of (drop 1 xs)) / 2 ≡ mask_of (drop 1 xs) = omega arith in
-    ap (λ ys. mask_of ys / 2) (zero_first xs n len first).0 ∙ half
+pub mask_first : (us xs : List ℕ) (n : ℕ) → length xs ≡ suc n → slice_index xs 0 ≡ 0 → mask_of (0 ∷ us) xs / 2 ≡ mask_of us (drop 1 xs)
+mask_first us xs n len first =
+    let half : (2 * mask_of us (drop 1 xs)) / 2 ≡ mask_of us (drop 1 xs) = omega arith in
+    ap (λ ys. mask_of (0 ∷ us) ys / 2) (zero_first xs n len first).0 ∙ half
 
-pub mask_less : (xs : List ℕ) (n : ℕ) → length xs ≤ n → mask_of xs < 2 ^ n
-mask_less [] zero le = omega arith
-mask_less [] (suc n) le = (let h = mask_less [] n (omega arith) in let two = pow-succ' 2 n in omega (arith, h, two))
-mask_less (x ∷ xs) zero le = absurd (omega arith)
-mask_less (x ∷ xs) (suc n) le =
-    let h = mask_less xs n (omega (arith, le)) in
+pub mask_less : (us xs : List ℕ) (n : ℕ) → length xs ≤ n → mask_of us xs < 2 ^ n
+mask_less [] xs n le = (let h = one-le-pow n 2 (omega arith) in omega (arith, h))
+mask_less (u ∷ us) [] n le = (let h = one-le-pow n 2 (omega arith) in omega (arith, h))
+mask_less (u ∷ us) (x ∷ xs) zero le = absurd (omega (arith, le))
+mask_less (u ∷ us) (x ∷ xs) (suc n) le =
+    let h = mask_less us xs n (omega (arith, le)) in
     let two = pow-succ' 2 n in
-    (elim (x == 0) as (λ b. (if b then 2 * mask_of xs else 2 * mask_of xs + 1) < 2 ^ suc n) [ true ↦ omega (arith, h, two) | false ↦ omega (arith, h, two) ])
+    (elim (x == u) as (λ b. (if b then 2 * mask_of us xs else 2 * mask_of us xs + 1) < 2 ^ suc n) [ true ↦ omega (arith, h, two) | false ↦ omega (arith, h, two) ])
 
 pub two_front : (xs : List ℕ) (a b : ℕ) → 2 ≤ length xs → take 2 (set (set xs 0 a) 1 b) ≡ a ∷ b ∷ []
 two_front (x ∷ y ∷ xs) a b le = refl
@@ -136,24 +148,25 @@ abbrev pub picked : ℕ → List ℕ → List ℕ
 picked mask [] = []
 picked mask (x ∷ xs) = if mask % 2 == 1 then x ∷ picked (mask / 2) xs else picked (mask / 2) xs
 
-pub picked_all : (xs : List ℕ) → picked (mask_of xs) xs ≡ nonzero xs
-picked_all [] = refl
-picked_all (x ∷ xs) =
-    let again = picked_all xs in
-    (elim (x == 0) as (λ b. picked (if b then 2 * mask_of xs else 2 * mask_of xs + 1) (x ∷ xs) ≡ (if b then nonzero xs else x ∷ nonzero xs)) [
-      | true ↦
-          let low : (2 * mask_of xs) % 2 ≡ 0 = omega arith in
-          let half : (2 * mask_of xs) / 2 ≡ mask_of xs = omega arith in
-          rw low (rw half again)
-      | false ↦
-          let low : (2 * mask_of xs + 1) % 2 ≡ 1 = omega arith in
-          let half : (2 * mask_of xs + 1) / 2 ≡ mask_of xs = omega arith in
-          rw low (rw half (λ i. x ∷ again i))
-    ])
-
 pub picked_none : (xs : List ℕ) → picked 0 xs ≡ []
 picked_none [] = refl
 picked_none (x ∷ xs) = picked_none xs
+
+pub picked_all : (us xs : List ℕ) → picked (mask_of us xs) xs ≡ unusual us xs
+picked_all [] xs = picked_none xs
+picked_all (u ∷ us) [] = refl
+picked_all (u ∷ us) (x ∷ xs) =
+    let again = picked_all us xs in
+    (elim (x == u) as (λ b. picked (if b then 2 * mask_of us xs else 2 * mask_of us xs + 1) (x ∷ xs) ≡ (if b then unusual us xs else x ∷ unusual us xs)) [
+      | true ↦
+          let low : (2 * mask_of us xs) % 2 ≡ 0 = omega arith in
+          let half : (2 * mask_of us xs) / 2 ≡ mask_of us xs = omega arith in
+          rw low (rw half again)
+      | false ↦
+          let low : (2 * mask_of us xs + 1) % 2 ≡ 1 = omega arith in
+          let half : (2 * mask_of us xs + 1) / 2 ≡ mask_of us xs = omega arith in
+          rw low (rw half (λ i. x ∷ again i))
+    ])
 
 -- the first of them, and those behind it
 pub record FirstPicked (k mask : ℕ) (xs : List ℕ) : Type 0 where
@@ -202,14 +215,15 @@ first_picked (x ∷ xs) (suc k) mask some less le =
       | inr even ↦ first_even x xs k mask (omega arith) some (first_picked xs k (mask / 2) (omega arith) (omega (arith, two, less)) (omega (arith, le)))
     ])
 
-nonzero_less : (xs : List ℕ) → length (nonzero xs) ≤ length xs
-nonzero_less [] = omega arith
-nonzero_less (x ∷ xs) =
-    let less = nonzero_less xs in
-    (elim (x == 0) as (λ b. length (if b then nonzero xs else x ∷ nonzero xs) ≤ suc (length xs)) [ true ↦ omega arith | false ↦ omega arith ])
+unusual_less : (us xs : List ℕ) → length (unusual us xs) ≤ length xs
+unusual_less [] xs = omega arith
+unusual_less (u ∷ us) [] = omega arith
+unusual_less (u ∷ us) (x ∷ xs) =
+    let less = unusual_less us xs in
+    (elim (x == u) as (λ b. length (if b then unusual us xs else x ∷ unusual us xs) ≤ suc (length xs)) [ true ↦ omega arith | false ↦ omega arith ])
 
 pub packed_few : (r : Registers) → IsRegisters r → length (packed r) ≤ 33
-packed_few r whole = (let numbers = nonzero_less (drop 1 r.words) in omega (arith, numbers, length-drop 1 r.words, whole.count))
+packed_few r whole = (let numbers = unusual_less usual (drop 1 r.words) in omega (arith, numbers, length-drop 1 r.words, whole.count))
 
 -- where one more is to come, there is room for it
 pub next_fits : (buffer rest : List ℕ) (end value : ℕ) (r : Registers) → IsRegisters r → length buffer ≡ 33 → end ≤ 33 → take end buffer ++ value ∷ rest ≡ packed r → end < 33
@@ -221,17 +235,19 @@ eq_test : (a b : ℕ) → (a ≡ b → ⊥) → (a == b) ≡ false
 eq_test a b other = (elim (a == b) as (λ t. (a == b) ≡ t → t ≡ false) [ true ↦ λ e. absurd (other ((Decides-eqb a b).0 e)) | false ↦ λ e. refl ]) refl
 
 -- the next number, and those behind it
-pub spread_some : (k n mask at : ℕ) (xs : List ℕ) → n ≡ suc k → mask % 2 ≡ 1 → spread n mask (drop at xs) ≡ slice_index xs at ∷ spread k (mask / 2) (drop (at + 1) xs)
+pub spread_some : (us : List ℕ) (mask at : ℕ) (xs : List ℕ) → 0 < length us → mask % 2 ≡ 1 → spread us mask (drop at xs) ≡ slice_index xs at ∷ spread (drop 1 us) (mask / 2) (drop (at + 1) xs)
 unfolding spread
-spread_some k n mask at xs is one =
+spread_some [] mask at xs some one = absurd (omega (arith, some))
+spread_some (u ∷ us) mask at xs some one =
     let value : get_or (drop at xs) 0 0 ≡ get_or xs at 0 = get_or-drop at xs 0 0 ∙ ap (λ i. get_or xs i 0) (let e : at + 0 ≡ at = omega arith in e) in
     let rest : drop 1 (drop at xs) ≡ drop (at + 1) xs = drop-drop 1 at xs in
-    ap (λ m. spread m mask (drop at xs)) is ∙ rw one (λ i. value i ∷ spread k (mask / 2) (rest i))
+    rw one (λ i. value i ∷ spread us (mask / 2) (rest i))
 
-pub spread_none : (k n mask : ℕ) (ys : List ℕ) → n ≡ suc k → (mask % 2 ≡ 1 → ⊥) → spread n mask ys ≡ 0 ∷ spread k (mask / 2) ys
+pub spread_none : (us : List ℕ) (mask : ℕ) (ys : List ℕ) → 0 < length us → (mask % 2 ≡ 1 → ⊥) → spread us mask ys ≡ slice_index us 0 ∷ spread (drop 1 us) (mask / 2) ys
 unfolding spread
-spread_none k n mask ys is other =
-    ap (λ m. spread m mask ys) is ∙ ap (λ b. if b then slice_index ys 0 ∷ spread k (mask / 2) (drop 1 ys) else 0 ∷ spread k (mask / 2) ys) (eq_test (mask % 2) 1 other)
+spread_none [] mask ys some other = absurd (omega (arith, some))
+spread_none (u ∷ us) mask ys some other =
+    ap (λ b. if b then slice_index ys 0 ∷ spread us (mask / 2) (drop 1 ys) else u ∷ spread us (mask / 2) ys) (eq_test (mask % 2) 1 other)
 
 -- one number more is there
 pub stored : (ws : List ℕ) (n value : ℕ) (rest all : List ℕ) → n < length ws → take n ws ++ value ∷ rest ≡ all → take (n + 1) (set ws n value) ++ rest ≡ all
@@ -240,7 +256,27 @@ stored ws n value rest all lt is = ap (λ xs. xs ++ rest) (take_more_set ws n va
 pub put_words : (r : Registers) (n value : ℕ) → 0 < n → with_register r n value ≡ record { pc = r.pc; words = set r.words n value }
 put_words r n value some = ap (λ b. if b then r else record { pc = r.pc; words = set r.words n value }) (eq_test n 0 (λ e. omega (arith, e, some)))
 
+-- registers that are usual from a number on become those that are packed
+abbrev pub Becomes : List ℕ → ℕ → ℕ → List ℕ → List ℕ → Type 0
+Becomes ws n mask ys all = take n ws ++ spread (drop n ws) mask ys ≡ all
+
+pub put_next : (ws : List ℕ) (n mask at : ℕ) (xs all : List ℕ) → n < length ws → mask % 2 ≡ 1 → Becomes ws n mask (drop at xs) all → Becomes (set ws n (slice_index xs at)) (n + 1) (mask / 2) (drop (at + 1) xs) all
+put_next ws n mask at xs all lt one is =
+    let value = slice_index xs at in
+    let behind : drop 1 (drop n ws) ≡ drop (n + 1) (set ws n value) = drop-drop 1 n ws ∙ sym (drop-set-lt (n + 1) ws n value (omega arith)) in
+    stored ws n value (spread (drop (n + 1) (set ws n value)) (mask / 2) (drop (at + 1) xs)) all lt (
+    (λ i. take n ws ++ value ∷ spread (sym behind i) (mask / 2) (drop (at + 1) xs))
+    ∙ ap (λ ys. take n ws ++ ys) (sym (spread_some (drop n ws) mask at xs (omega (arith, lt, length-drop n ws)) one)) ∙ is)
+
+pub leave_next : (ws : List ℕ) (n mask : ℕ) (ys all : List ℕ) → n < length ws → (mask % 2 ≡ 1 → ⊥) → Becomes ws n mask ys all → Becomes ws (n + 1) (mask / 2) ys all
+leave_next ws n mask ys all lt other is =
+    let here : slice_index (drop n ws) 0 ≡ slice_index ws n = get_or-drop n ws 0 0 ∙ ap (slice_index ws) (let e : n + 0 ≡ n = omega arith in e) in
+    ap (λ zs. zs ++ spread (drop (n + 1) ws) (mask / 2) ys) (take_more ws n 0 lt)
+    ∙ append_assoc (take n ws) (slice_index ws n ∷ []) (spread (drop (n + 1) ws) (mask / 2) ys)
+    ∙ (λ i. take n ws ++ sym here i ∷ spread (sym (drop-drop 1 n ws) i) (mask / 2) ys)
+    ∙ ap (λ zs. take n ws ++ zs) (sym (spread_none (drop n ws) mask ys (omega (arith, lt, length-drop n ws)) other)) ∙ is
+
 -- all of them
-pub all_stored : (ws : List ℕ) (n k mask : ℕ) (ys all : List ℕ) → length ws ≤ n → k ≡ 0 → take n ws ++ spread k mask ys ≡ all → ws ≡ all
+pub became : (ws : List ℕ) (n mask : ℕ) (ys all : List ℕ) → length ws ≤ n → Becomes ws n mask ys all → ws ≡ all
 unfolding spread
-all_stored ws n k mask ys all le none is = sym (append-nil ws) ∙ ap (λ xs. xs ++ []) (sym (take_all n ws le)) ∙ ap (λ m. take n ws ++ spread m mask ys) (sym none) ∙ is
+became ws n mask ys all le is = sym (append-nil ws) ∙ (λ i. sym (take_all n ws le) i ++ spread (sym (drop_all n ws le) i) mask ys) ∙ is

@@ -13,8 +13,8 @@ pub use Rattle.tc_journal.specs.declared.block.Kind.TheVariants.{Adopted, Taken}
 pub use Rattle.tc_turn.specs.Replay.{AreReplayed, Entry, Replays, replay_entry, replayed}
 pub use Rattle.tc_turn.specs.Turn.{Mutex, mutex_at_start}
 pub use Rattle.tc_segment.specs.Kept.{AllFit, AreCounted, AreParts, HasRooms, Fits, IsNear, KeptLock, OpenFits, block_of, count, entry_room_in, grounds, open_in, sealed_record, shown, shown_journal, shown_open, start_of, steps_of, view_of, words_of}
-pub use Rattle.tc_segment.specs.Packed.{ArePacked, Edges, Extends, IsPlace, StandsAt, StandsBeside, StandsLast, behind, mask_of, nonzero, packed}
-unfoldable pub use Rattle.tc_segment.specs.Packed.{regs_at, spread}
+pub use Rattle.tc_segment.specs.Packed.{ArePacked, Edges, Extends, IsPlace, StandsAt, StandsBeside, StandsLast, behind, mask_of, packed, unusual}
+unfoldable pub use Rattle.tc_segment.specs.Packed.{regs_at, spread, usual}
 pub use Rattle.tc_segment.specs.View.{Closes, ClosesWith, EndedAt, IsAtRest, IsSoundLock, IsStrict, Journal, LockView, Opened, block_in, blocks_of, closed_with, entries, entry_from, finish_in, fresh_state, kept, last_finish, lock_of, more_words, noted, opened_at, passes_in, replay_in, sealed_as, sealed_block, sealed_entry, sealed_list, strict_as, with_closed, with_end, with_journal}
 pub use Rattle.tc_segment.specs.declared.record.Opening.{Opening}
 pub use Rattle.tc_segment.specs.declared.record.Record.{Record}

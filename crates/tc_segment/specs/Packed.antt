@@ -1,29 +1,37 @@
--- Registers as a journal keeps them: the program counter, a mask, and the numbers that are not 0.
-use Rattle.std.specs.Prelude.{◌≡◌, ℕ, zero, suc, ◌+◌, ◌*◌, ◌/◌, ◌%◌, ◌==◌, ◌<◌, ◌≤◌, List, [], ◌∷◌, ◌++◌, length, take, drop, slice_index, if◌then◌else◌, Result, OnOk}
-use Rattle.tc_isa.specs.Registers.{Registers, IsRegisters}
+-- Registers as a journal keeps them: the program counter, a mask, and the numbers that are not the usual ones.
+use Rattle.std.specs.Prelude.{◌≡◌, ℕ, ◌+◌, ◌*◌, ◌/◌, ◌%◌, ◌==◌, ◌<◌, ◌≤◌, List, [], ◌∷◌, ◌++◌, length, take, drop, slice_index, if◌then◌else◌, Result, OnOk}
+use Rattle.tc_isa.specs.Registers.{Registers, IsRegisters, started, with_register}
 use Rattle.tc_segment.specs.declared.packed.TheConstants.{MOST_WORDS}
 
--- from its lowest bit on, a mask has 1 where a number is not 0
-abbrev pub mask_of : List ℕ → ℕ
-mask_of [] = 0
-mask_of (x ∷ xs) = if x == 0 then 2 * mask_of xs else 2 * mask_of xs + 1
+-- the numbers that registers 1 to 31 have at the start of a thread whose argument and number are 0, and in x17 the number
+-- of LOCK, with which a section begins
+unfoldable pub usual : List ℕ
+usual = drop 1 (with_register (started 0 0 0) 17 1).words
 
-abbrev pub nonzero : List ℕ → List ℕ
-nonzero [] = []
-nonzero (x ∷ xs) = if x == 0 then nonzero xs else x ∷ nonzero xs
+-- from its lowest bit on, a mask has 1 where a number is not the usual one
+abbrev pub mask_of : List ℕ → List ℕ → ℕ
+mask_of [] xs = 0
+mask_of (u ∷ us) [] = 0
+mask_of (u ∷ us) (x ∷ xs) = if x == u then 2 * mask_of us xs else 2 * mask_of us xs + 1
+
+-- the numbers that are not the usual ones
+abbrev pub unusual : List ℕ → List ℕ → List ℕ
+unusual [] xs = []
+unusual (u ∷ us) [] = []
+unusual (u ∷ us) (x ∷ xs) = if x == u then unusual us xs else x ∷ unusual us xs
 
 -- register 0, which is always 0, has no bit
 abbrev pub packed : Registers → List ℕ
-packed r = r.pc ∷ mask_of (drop 1 r.words) ∷ nonzero (drop 1 r.words)
+packed r = r.pc ∷ mask_of usual (drop 1 r.words) ∷ unusual usual (drop 1 r.words)
 
--- so many numbers: the next one of the list where the mask has 1, and else 0
-unfoldable pub spread : ℕ → ℕ → List ℕ → List ℕ
-spread zero mask xs = []
-spread (suc n) mask xs = if mask % 2 == 1 then slice_index xs 0 ∷ spread n (mask / 2) (drop 1 xs) else 0 ∷ spread n (mask / 2) xs
+-- the next number of the list where the mask has 1, and else the usual one
+unfoldable pub spread : List ℕ → ℕ → List ℕ → List ℕ
+spread [] mask xs = []
+spread (u ∷ us) mask xs = if mask % 2 == 1 then slice_index xs 0 ∷ spread us (mask / 2) (drop 1 xs) else u ∷ spread us (mask / 2) xs
 
 -- the registers at a place
 unfoldable pub regs_at : List ℕ → ℕ → Registers
-regs_at edges i = record { pc = slice_index edges i; words = 0 ∷ spread 31 (slice_index edges (i + 1)) (drop (i + 2) edges) }
+regs_at edges i = record { pc = slice_index edges i; words = 0 ∷ spread usual (slice_index edges (i + 1)) (drop (i + 2) edges) }
 
 -- the place right behind the registers at a place
 abbrev pub behind : List ℕ → ℕ → ℕ

@@ -1,8 +1,8 @@
-//! Registers in few words: the program counter, a mask, and the numbers that are not 0.
+//! Registers in few words: the program counter, a mask, and the numbers that are not the usual ones.
 
-ghost use Rattle.std.specs.Prelude.{◌≡◌, length, drop, slice_index};
+ghost use Rattle.std.specs.Prelude.{◌≡◌, ◌∷◌, length, drop, slice_index};
 ghost use Rattle.tc_isa.specs.Registers.{Registers};
-ghost use Rattle.tc_segment.specs.Packed.{ArePacked, IsPlace, mask_of, regs_at, packed};
+ghost use Rattle.tc_segment.specs.Packed.{ArePacked, IsPlace, mask_of, regs_at, packed, usual};
 ghost use Rattle.tc_segment.specs.declared.packed.TheConstants.{MOST_WORDS};
 
 use std::marker::Model;
@@ -12,6 +12,9 @@ use tc_isa::regs::Regs;
 
 /// The most words that registers take.
 pub(crate) const MOST_WORDS: usize = 33;
+
+/// The number of LOCK, which x17 has where a section begins.
+const LOCK: u32 = 1;
 
 /// Registers, packed. A value is made once and used again, since it takes the same memory for all
 /// registers.
@@ -92,10 +95,22 @@ fn pack(regs: &Regs, buffer: &mut [u32; MOST_WORDS]) -> usize
 /// The mask of all words but the first, which is 0.
 fn mask_of(words: &[u32; 32]) -> u32
     requires { slice_index words.now 0 ≡ 0 }
-    ensures { result ≡ mask_of (drop 1 words.now) }
+    ensures { result ≡ mask_of usual (drop 1 words.now) }
 {
-    let nonzero = u32x32::from_array(*words).simd_ne(u32x32::splat(0));
-    (nonzero.to_bitmask() / 2) as u32
+    let unusual = u32x32::from_array(*words).simd_ne(u32x32::from_array(usual()));
+    (unusual.to_bitmask() / 2) as u32
+}
+
+/// The usual numbers of all registers: 0, but in x2 the end of a thread's stack, and in x17 the
+/// number of LOCK.
+#[inline(always)]
+fn usual() -> [u32; 32]
+    ensures { result ≡ 0 ∷ usual }
+{
+    let mut words = [0; 32];
+    words[2] = 0x8000_0000;
+    words[17] = LOCK;
+    words
 }
 
 /// The registers that stand at this place.
@@ -105,16 +120,15 @@ pub(crate) fn unpack(words: &[u32], place: u32) -> Regs
 {
     let place = place as usize;
     let mut regs = Regs::start(word_at(words, place), 0, 0);
+    regs.put(Reg::of(17), LOCK);
     let mut mask = word_at(words, place + 1);
     let mut at = place + 2;
     for number in 1..32 {
-        let mut value = 0;
         if mask % 2 == 1 {
-            value = word_at(words, at);
+            regs.put(Reg::of(number), word_at(words, at));
             at += 1;
         }
         mask /= 2;
-        regs.put(Reg::of(number), value);
     }
     regs
 }

@@ -1,9 +1,9 @@
 //! Capacity for more entries. Most blocks find that there is room, so growth is code of its own.
 //! Pages that are not written yet take no memory of the host, and a large vector grows without a
 //! copy. The first capacity is small, since a separate allocation costs more than all entries of a
-//! small run. Each allocation is a power of two of bytes, including the two 8-byte words that an
-//! allocator keeps before it, or less by a thousandth or so, so that large ones fill whole large
-//! pages of the host.
+//! small run, and it is copied when it grows. Each later allocation is a power of two of bytes,
+//! including the two 8-byte words that an allocator keeps before it, or less by a thousandth or so,
+//! so that large ones fill whole large pages of the host.
 
 ghost use Rattle.std.specs.Prelude.{◌≡◌, ◌<◌, ◌^◌, vec_len};
 ghost use Rattle.tc_segment.specs.Edges.{room_in, CanHaveRow, HasRow};
@@ -23,7 +23,7 @@ struct Growth {
 
 /// How that of records grows.
 const RECORDS: Growth = Growth {
-    first: 909,
+    first: 568,
     more: 14_563,
     before: 0,
 };

@@ -11,7 +11,8 @@ words-preserved c =
     let start = c.args.start in
     let s : Option Instr = c.slot_at.result in
     record {
-      tells = subst (λ (xs : List (Option Instr)). SlotsTell image start xs) (sym c.in_ok-push.ensures.items)
+      tells = subst (λ (xs : List (Option Instr)). SlotsTell image start xs) (sym c.push_reserved.ensures.items)
           (slot_more image start c.words.slots.items s c.words.invariant.tells (subst (λ n. SlotTells image (start + 4 * n) s) (sym c.words.invariant.count) c.slot_at.ensures));
       count = search rules;
+      room = search rules;
     }

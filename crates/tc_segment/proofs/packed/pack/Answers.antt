@@ -1,4 +1,4 @@
-use Rattle.tc_segment.proofs.Vocabulary.{◌≡◌, ℕ, ◌+◌, ◌-◌, ◌^◌, ◌<◌, ◌≤◌, ◌∷◌, ◌++◌, List, length, take, drop, set, sym, ap, subst, ◌∙◌, arith, append-nil, length-drop, w32, slice_index, IsRegisters, Registers, bit_and, mask_of, nonzero, packed, length-set, get_or-drop}
+use Rattle.tc_segment.proofs.Vocabulary.{◌≡◌, ℕ, ◌+◌, ◌-◌, ◌^◌, ◌<◌, ◌≤◌, ◌∷◌, ◌++◌, List, length, take, drop, set, sym, ap, subst, ◌∙◌, arith, append-nil, length-drop, w32, slice_index, IsRegisters, Registers, bit_and, mask_of, packed, unusual, usual, length-set, get_or-drop}
 use Rattle.std.specs.Int.{trailing_zeros}
 use Rattle.std.proofs.lemmas.Nat.{and_le_r}
 use Rattle.tc_segment.proofs.Packing.{mask_less, picked, picked_all, picked_none, FirstPicked, first_picked, next_fits, stored, two_front}
@@ -19,9 +19,9 @@ loop-left-init c =
     record {
       room = omega arith;
       buffer = length-set (set c.args.buffer.now 0 c.pc.result) 1 c.mask_of-mask.result ∙ length-set c.args.buffer.now 0 c.pc.result ∙ c.told-buffer;
-      mask = (let less = mask_less xs 31 count in omega (arith, less, mask));
-      kept = (λ i. two_front c.args.buffer.now c.pc.result c.mask_of-mask.result (omega (arith, c.told-buffer)) i ++ (ap (λ m. picked m xs) mask ∙ picked_all xs) i)
-          ∙ (λ i. c.pc.ensures.value i ∷ (mask ∙ ap (λ ws. mask_of (drop 1 ws)) words) i ∷ nonzero (drop 1 (words i)));
+      mask = (let less = mask_less usual xs 31 count in omega (arith, less, mask));
+      kept = (λ i. two_front c.args.buffer.now c.pc.result c.mask_of-mask.result (omega (arith, c.told-buffer)) i ++ (ap (λ m. picked m xs) mask ∙ picked_all usual xs) i)
+          ∙ (λ i. c.pc.ensures.value i ∷ (mask ∙ ap (λ ws. mask_of usual (drop 1 ws)) words) i ∷ unusual usual (drop 1 (words i)));
     }
 
 pub bounds-words-number : goal.bounds-words-number
